@@ -1,0 +1,4 @@
+pub mod Syntax
+pub mod Contents
+pub mod Reader
+pub mod Reading

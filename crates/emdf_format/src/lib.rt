@@ -1,0 +1,142 @@
+// The EMDF container of ETSI TS 102 366 Annex H: its constants, and the types that definitions and calls share. The format
+// itself is specs/.
+use openjoc_bitio::BitError;
+use openjoc_bitio::BitOffset;
+use openjoc_bitio::ByteCount;
+
+pub const SYNCWORD: u16 = 0x5838;
+
+// TS 103 420 table 55.
+pub const OAMD_PAYLOAD_ID: u64 = 11;
+
+pub const JOC_PAYLOAD_ID: u64 = 14;
+
+// Limits of the original that Annex H doesn't state: docs/DIFFERENCES.md.
+pub const MAX_EXTENDED_GROUPS: u8 = 31;
+
+pub const MAX_DURATION_GROUPS: u8 = 2;
+
+pub const MAX_SIZE_GROUPS: u8 = 2;
+
+// A container declares its length in 16 bits.
+pub const MAX_DECLARED: usize = 65535;
+
+// Why a reading is refused.
+pub enum EmdfError {
+    TruncatedContainer { declared: usize, available: usize },
+    InvalidSyncword { actual: u16 },
+    Bit(BitError),
+    InvalidVariableBits { width: u8, limit: u8 },
+    VariableBitsGroupLimit { width: u8, limit: u8 },
+    ValueOverflow,
+    UnsupportedVersion { version: u64 },
+    NonzeroReservedData,
+    ReservedPrimaryProtectionLength,
+    ExcessPadding { bits: usize },
+    NonzeroPadding,
+}
+
+// A setting that may be absent. Any number may stand in it: which are writable is a question.
+pub enum Optional {
+    Absent,
+    Present(u64),
+}
+
+// The ten settings of a payload, in the order in which they are written.
+pub struct EmdfPayloadConfig {
+    pub sample_offset: Optional,
+    pub duration: Optional,
+    pub group_id: Optional,
+    pub codec_data_present: u64,
+    pub discard_unknown_payload: u64,
+    pub payload_frame_aligned: Optional,
+    pub create_duplicate: Optional,
+    pub remove_duplicate: Optional,
+    pub priority: Optional,
+    pub processing_allowed: Optional,
+}
+
+// Where a payload's parts stand, from the carrier's first bit.
+pub struct EmdfPayloadBitTrace {
+    pub payload_id_start_bit: BitOffset,
+    pub payload_id_end_bit: BitOffset,
+    pub config_start_bit: BitOffset,
+    pub config_end_bit: BitOffset,
+    pub payload_size_start_bit: BitOffset,
+    pub payload_size_end_bit: BitOffset,
+    pub payload_body_start_bit: BitOffset,
+    pub payload_body_end_bit: BitOffset,
+}
+
+// What a reading records of a payload.
+pub struct PayloadRecord {
+    pub id: u64,
+    pub config: EmdfPayloadConfig,
+    pub trace: EmdfPayloadBitTrace,
+}
+
+// Why a reading that fills a table of records is refused: as any reading is, or for want of rows.
+pub enum RecordsError {
+    Emdf(EmdfError),
+    TableTooShort { payloads: usize },
+}
+
+// Why the body of a payload is not moved.
+pub enum BodyError {
+    Emdf(EmdfError),
+    NoSuchPayload,
+    ScratchTooShort { needed: ByteCount },
+}
+
+// The move call's answer: the body's first bit in the carrier, and its length.
+pub enum BodyAnswer {
+    Body(BitOffset, ByteCount),
+    Refused(BodyError),
+}
+
+// The policy of a verdict: tables 55 and 56 as published, or with the deviations that producers were seen to make.
+pub enum JocValidationProfile {
+    EtsiStrict,
+    ObservedVendorCompat,
+}
+
+pub enum JocValidationStatus {
+    NormativeCompliant,
+    AcceptedWithDeviation,
+}
+
+// Why a verdict refuses. The deviations are a word of marks, the first its lowest bit, and their number.
+pub enum JocProfileError {
+    Emdf(EmdfError),
+    PayloadCount { oamd: usize, joc: usize },
+    Configuration { deviations: u32, count: u32 },
+}
+
+// A carrier that a profile accepts: the places of its two payloads, and the marks.
+pub struct ValidatedJocProfile {
+    pub oamd: usize,
+    pub joc: usize,
+    pub deviations: u32,
+    pub status: JocValidationStatus,
+}
+
+pub enum JocProfileAnswer {
+    Accepted(ValidatedJocProfile),
+    Refused(JocProfileError),
+}
+
+// Why an edit is refused.
+pub enum EditError {
+    Emdf(EmdfError),
+    TrailingData,
+    NoSuchPlace,
+    NotWritable,
+    TooLong,
+    DestinationTooShort { needed: ByteCount },
+}
+
+// An edit's answer: the length of the carrier that it wrote, or why it wrote nothing.
+pub enum EditAnswer {
+    Written(ByteCount),
+    Refused(EditError),
+}

@@ -1,0 +1,13 @@
+-- Numbers as bytes, the most significant first: the form of every answer to a host. Assumes nothing.
+use Prim.Native.Nat.{ℕ, zero, suc, _*_, _/_, _%_, _^_}
+use mathlib.Core.List.{List, [], _∷_, _++_}
+
+-- v in n bytes
+unfoldable pub bigEndian : ℕ → ℕ → List ℕ
+bigEndian zero v = []
+bigEndian (suc n) v = v / 2 ^ (8 * n) % 256 ∷ bigEndian n v
+
+-- numbers, 8 bytes each
+unfoldable pub words : List ℕ → List ℕ
+words [] = []
+words (v ∷ vs) = bigEndian 8 v ++ words vs

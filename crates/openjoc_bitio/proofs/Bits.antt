@@ -1,0 +1,102 @@
+-- Laws of bits and of the numbers that they make, for every crate that reads or writes them. Assumes nothing.
+use mathlib.Core.Path.{_≡_, refl, sym, ap, _∙_}
+use mathlib.Core.List.{List, _++_}
+use Prim.Native.Nat.{ℕ, zero, suc, _+_, _-_, _*_, _/_, _%_, _^_, _<_, _≤_}
+use native.Mathlib.Nat.{pow-suc, add-zero, add-suc, suc-add, add-assoc, mul-assoc, mul-one, one-mul, mod-one, zero-add}
+use native.Mathlib.Numerals.{add-one}
+use native.Mathlib.Omega.{arith}
+use lib.ListN.{length, getD, take, drop, List·getD-append}
+use lib.Seq.{getD-take, getD-drop}
+use lib.Dec.{lit<}
+use lib.Pow.{mod-pow-add, shr-shr, pow-mono}
+use Rattle.openjoc_bitio.specs.Bits.{bitAt, bitsValue}
+
+pub bit-range : (s : List ℕ) (p : ℕ) → bitAt s p < 2
+unfolding bitAt
+bit-range s p = omega arith
+
+pub value-none : (s : List ℕ) (p : ℕ) → bitsValue s p 0 ≡ 0
+unfolding bitsValue
+value-none s p = refl
+
+-- one bit more, at the end
+pub value-more : (s : List ℕ) (p w : ℕ) → bitsValue s p (w + 1) ≡ bitsValue s p w * 2 + bitAt s (p + w)
+unfolding bitsValue
+value-more s p w = rw add-one
+
+pub value-one : (s : List ℕ) (p : ℕ) → bitsValue s p 1 ≡ bitAt s p
+unfolding bitsValue
+value-one s p = rw add-zero (omega arith)
+
+pub value-range : (s : List ℕ) (p w : ℕ) → bitsValue s p w < 2 ^ w
+unfolding bitsValue
+value-range s p zero = lit< tt
+value-range s p (suc w) = rw pow-suc (omega (arith, value-range s p w, bit-range s (p + w)))
+
+-- a read in two parts
+pub value-split : (s : List ℕ) (p i t : ℕ) → bitsValue s p (i + t) ≡ bitsValue s p i * 2 ^ t + bitsValue s (p + i) t
+unfolding bitsValue
+value-split s p i zero = rw (add-zero, mul-one, add-zero)
+value-split s p i (suc t) = rw (add-suc, pow-suc, ← mul-assoc, ← add-assoc) (omega (arith, value-split s p i t))
+
+-- one bit more, at the front
+pub value-first : (s : List ℕ) (p w : ℕ) → bitsValue s p (suc w) ≡ bitAt s p * 2 ^ w + bitsValue s (suc p) w
+value-first s p w = let e : suc w ≡ 1 + w = omega arith in let f : p + 1 ≡ suc p = omega arith in rw (e, value-split, value-one, f)
+
+-- ---- bits of one octet
+
+half : (b e t : ℕ) → b / 2 ^ suc e % 2 ^ t * 2 + b / 2 ^ e % 2 ≡ b / 2 ^ e % 2 ^ suc t
+half b e t = rw (← add-one e, ← add-one t, ← shr-shr, mod-pow-add) (omega arith)
+
+bit-octet : (s : List ℕ) (q t e : ℕ) → q % 8 + t + e ≡ 7 → bitAt s (q + t) ≡ getD s (q / 8) 0 / 2 ^ e % 2
+unfolding bitAt
+bit-octet s q t e h =
+    let i : (q + t) / 8 ≡ q / 8 = omega arith in
+    let j : 7 - (q + t) % 8 ≡ e = omega arith in
+    rw (i, j)
+
+-- t bits of one octet, with e bits of it below them
+pub value-octet : (s : List ℕ) (q t e : ℕ) → q % 8 + t + e ≡ 8 → bitsValue s q t ≡ getD s (q / 8) 0 / 2 ^ e % 2 ^ t
+unfolding bitsValue
+value-octet s q zero e h = sym (mod-one _)
+value-octet s q (suc t) e h = rw (value-octet s q t (suc e) (omega arith), bit-octet s q t e (omega arith), half)
+
+-- ---- the same bits elsewhere
+
+-- a value depends on its bits alone
+pub value-same : (s r : List ℕ) (p q w : ℕ) → ((i : ℕ) → i < w → bitAt s (p + i) ≡ bitAt r (q + i)) → bitsValue s p w ≡ bitsValue r q w
+unfolding bitsValue
+value-same s r p q zero h = refl
+value-same s r p q (suc w) h = rw (value-same s r p q w (λ i l. h i (omega arith)), h w (omega arith))
+
+bit-take : (s : List ℕ) (n p : ℕ) → p < n * 8 → bitAt (take n s) p ≡ bitAt s p
+unfolding bitAt
+bit-take s n p h = let l : p / 8 < n = omega arith in rw getD-take
+
+bit-drop : (s : List ℕ) (n p : ℕ) → bitAt (drop n s) p ≡ bitAt s (n * 8 + p)
+unfolding bitAt
+bit-drop s n p =
+    let i : (n * 8 + p) / 8 ≡ n + p / 8 = omega arith in
+    let j : (n * 8 + p) % 8 ≡ p % 8 = omega arith in
+    rw (i, j, getD-drop)
+
+-- reads in the first n bytes, after them, and before bytes that follow
+pub value-take : (s : List ℕ) (n p w : ℕ) → p + w ≤ n * 8 → bitsValue (take n s) p w ≡ bitsValue s p w
+value-take s n p w h = value-same (take n s) s p p w (λ i l. bit-take s n (p + i) (omega arith))
+
+pub value-drop : (s : List ℕ) (n p w : ℕ) → bitsValue (drop n s) p w ≡ bitsValue s (n * 8 + p) w
+value-drop s n p w = value-same (drop n s) s p (n * 8 + p) w (λ i l. rw add-assoc (bit-drop s n (p + i)))
+
+bit-append : (s r : List ℕ) (p : ℕ) → p < length s * 8 → bitAt (s ++ r) p ≡ bitAt s p
+unfolding bitAt
+bit-append s r p h = let l : p / 8 < length s = omega arith in rw List·getD-append
+
+pub value-append : (s r : List ℕ) (p w : ℕ) → p + w ≤ length s * 8 → bitsValue (s ++ r) p w ≡ bitsValue s p w
+value-append s r p w h = value-same (s ++ r) s p p w (λ i l. bit-append s r (p + i) (omega arith))
+
+-- a turn of the octet-wise read: t bits more, and a number of at most 64 bits
+pub value-turn : (s : List ℕ) (p i t v r q : ℕ) → i + t ≤ 64 → v ≡ bitsValue s p i → r ≡ 2 ^ t → q ≡ bitsValue s (p + i) t
+    → (v * r + q ≡ bitsValue s p (i + t)) × (v * r + q < 2 ^ 64)
+value-turn s p i t v r q h a b d =
+    let e : v * r + q ≡ bitsValue s p (i + t) = rw (a, b, d, value-split) in
+    (e, (let m : 2 ^ (i + t) ≤ 2 ^ 64 = pow-mono h in omega (arith, value-range s p (i + t))))

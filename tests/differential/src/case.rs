@@ -1,0 +1,192 @@
+//! One bit call with its arguments, and the answer in the library's own figures.
+
+use std::fmt;
+
+pub const ACCEPTED: u32 = 0;
+pub const TOO_FEW_BITS: u32 = 3;
+pub const WIDTH_TOO_LARGE: u32 = 4;
+
+/// The widest read.
+pub const MAX_WIDTH: usize = 64;
+
+/// The exported bit calls; the discriminant is the call's number in the list.
+#[derive(Clone, Copy, Debug, Eq, PartialEq)]
+pub enum Call {
+    BitCursor = 0,
+    BitsRemaining = 1,
+    ReadBits = 2,
+    ReadBit = 3,
+    TakeBits = 4,
+    ByteAlign = 5,
+}
+
+impl Call {
+    #[must_use]
+    pub fn name(self) -> &'static str {
+        match self {
+            Self::BitCursor => "bit_cursor",
+            Self::BitsRemaining => "bits_remaining",
+            Self::ReadBits => "read_bits",
+            Self::ReadBit => "read_bit",
+            Self::TakeBits => "take_bits",
+            Self::ByteAlign => "byte_align",
+        }
+    }
+}
+
+/// A position and an end, in bits from the slice's first bit.
+#[derive(Clone, Copy, Debug, Default, Eq, PartialEq)]
+pub struct Cursor {
+    pub position: usize,
+    pub end: usize,
+}
+
+impl Cursor {
+    #[must_use]
+    pub fn new(position: usize, end: usize) -> Self {
+        Self { position, end }
+    }
+
+    /// No reader of the original ever has a cursor that this refuses.
+    #[must_use]
+    pub fn is_forged(self, length: usize) -> bool {
+        self.position > self.end || self.end > 8 * length
+    }
+}
+
+/// A call and its arguments beside the slice; an argument that a call lacks is 0.
+#[derive(Clone, Copy, Debug, Eq, PartialEq)]
+pub struct Request {
+    pub call: Call,
+    pub cursor: Cursor,
+    /// The width of `read_bits` or the count of `take_bits`.
+    pub argument: usize,
+}
+
+impl Request {
+    #[must_use]
+    pub fn new(call: Call, cursor: Cursor, argument: usize) -> Self {
+        Self {
+            call,
+            cursor,
+            argument,
+        }
+    }
+
+    /// The call that makes a cursor from a slice alone.
+    #[must_use]
+    pub fn bit_cursor() -> Self {
+        Self::new(Call::BitCursor, Cursor::default(), 0)
+    }
+}
+
+/// What a call returns and the six numbers that it writes.
+#[derive(Clone, Copy, Debug, Eq, PartialEq)]
+pub struct Answer {
+    pub number: u32,
+    pub words: [u64; 6],
+}
+
+impl Answer {
+    #[must_use]
+    pub fn accepted(value: u64, after: Cursor) -> Self {
+        Self::with_window(value, after, Cursor::default())
+    }
+
+    #[must_use]
+    pub fn window(after: Cursor, window: Cursor) -> Self {
+        Self::with_window(0, after, window)
+    }
+
+    #[must_use]
+    pub fn too_few_bits(requested: usize, remaining: usize, cursor: Cursor) -> Self {
+        Self::refused(TOO_FEW_BITS, [requested, remaining], cursor)
+    }
+
+    #[must_use]
+    pub fn width_too_large(width: usize, cursor: Cursor) -> Self {
+        Self::refused(WIDTH_TOO_LARGE, [width, 0], cursor)
+    }
+
+    /// The cursor after the call.
+    #[must_use]
+    pub fn cursor(&self) -> Cursor {
+        Cursor::new(self.words[2] as usize, self.words[3] as usize)
+    }
+
+    /// The window that `take_bits` made.
+    #[must_use]
+    pub fn window_cursor(&self) -> Cursor {
+        Cursor::new(self.words[4] as usize, self.words[5] as usize)
+    }
+
+    fn with_window(value: u64, after: Cursor, window: Cursor) -> Self {
+        let cursors = [after.position, after.end, window.position, window.end];
+        let [position, end, from, to] = cursors.map(|bit| bit as u64);
+        Self {
+            number: ACCEPTED,
+            words: [value, 0, position, end, from, to],
+        }
+    }
+
+    fn refused(number: u32, figures: [usize; 2], cursor: Cursor) -> Self {
+        let [first, second] = figures.map(|figure| figure as u64);
+        Self {
+            number,
+            words: [
+                first,
+                second,
+                cursor.position as u64,
+                cursor.end as u64,
+                0,
+                0,
+            ],
+        }
+    }
+}
+
+impl fmt::Display for Answer {
+    fn fmt(&self, formatter: &mut fmt::Formatter<'_>) -> fmt::Result {
+        let [first, second, position, end, from, to] = self.words;
+        write!(
+            formatter,
+            "number {}, figures {first} {second}, cursor {position} {end}, window {from} {to}",
+            self.number
+        )
+    }
+}
+
+/// A request on a slice, as it stands in a report.
+#[derive(Clone, Copy)]
+pub struct Described<'a> {
+    pub bytes: &'a [u8],
+    pub request: Request,
+}
+
+impl fmt::Display for Described<'_> {
+    fn fmt(&self, formatter: &mut fmt::Formatter<'_>) -> fmt::Result {
+        let Request {
+            call,
+            cursor,
+            argument,
+        } = self.request;
+        writeln!(formatter, "  call      emdf_{}", call.name())?;
+        write!(formatter, "  bytes     {} in all:", self.bytes.len())?;
+        for run in self.bytes.chunk_by(|one, next| one == next) {
+            write_run(formatter, run)?;
+        }
+        writeln!(formatter)?;
+        writeln!(formatter, "  position  {}", cursor.position)?;
+        writeln!(formatter, "  end       {}", cursor.end)?;
+        writeln!(formatter, "  argument  {argument}")
+    }
+}
+
+/// Equal bytes, each on its own unless they are many.
+fn write_run(formatter: &mut fmt::Formatter<'_>, run: &[u8]) -> fmt::Result {
+    if run.len() > 16 {
+        return write!(formatter, " {:02x}*{}", run[0], run.len());
+    }
+    run.iter()
+        .try_for_each(|byte| write!(formatter, " {byte:02x}"))
+}

@@ -1,0 +1,63 @@
+//! Compares the library's exported calls with the Rust original on the same inputs.
+
+mod bits;
+mod crash;
+mod guard;
+mod judge;
+mod library;
+mod model;
+mod report;
+mod shrink;
+
+use differential::options::Options;
+use differential::random::Random;
+use report::{Group, Tally};
+use std::process::ExitCode;
+
+/// Each part's groups, run in this order.
+const PARTS: [&[Group]; 1] = [&bits::GROUPS];
+
+fn main() -> ExitCode {
+    let options = match Options::parse(std::env::args().skip(1)) {
+        Ok(options) => options,
+        Err(problem) => {
+            eprintln!("differential: {problem}");
+            return ExitCode::from(2);
+        }
+    };
+    crash::watch();
+    let mut failed = Vec::new();
+    for (group, stream) in PARTS.into_iter().flatten().zip(0..) {
+        // A stream of its own, so that a group's cases don't hang on the others.
+        let mut random = Random::new(options.seed.wrapping_add(stream));
+        if !passes(group, &mut random, &options) {
+            failed.push(group.name);
+        }
+    }
+    let seed = options.seed;
+    if failed.is_empty() {
+        println!("differential: all groups agree, seed {seed}");
+        ExitCode::SUCCESS
+    } else {
+        let failed = failed.join("; ");
+        println!("differential: FAILED, seed {seed}: {failed}");
+        ExitCode::FAILURE
+    }
+}
+
+/// Runs a group up to its first difference and prints its line.
+fn passes(group: &Group, random: &mut Random, options: &Options) -> bool {
+    let mut tally = Tally::new(group);
+    let name = group.name;
+    if let Err(difference) = (group.run)(&mut tally, random, options.length) {
+        println!("{name}: {tally}, 1 difference, where it stopped");
+        print!("{}", difference.0);
+        return false;
+    }
+    println!("{name}: {tally}, 0 differences");
+    let never_hit = tally.never_hit();
+    for missing in &never_hit {
+        println!("  never hit: {missing}");
+    }
+    never_hit.is_empty()
+}

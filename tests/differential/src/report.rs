@@ -1,0 +1,92 @@
+//! A group of cases, what it counts, and the one line that it prints.
+
+use differential::options::Length;
+use differential::random::Random;
+use std::collections::BTreeMap;
+use std::fmt;
+
+/// A call by name and the number that it returned, 0 for accepted.
+pub type Outcome = (&'static str, u32);
+
+/// The two sides disagree: the smallest such case that was found, in full.
+pub struct Difference(pub String);
+
+/// Cases of one kind. The run fails where an outcome or a mark is never hit.
+pub struct Group {
+    pub name: &'static str,
+    pub outcomes: &'static [Outcome],
+    /// Whatever else the cases must reach.
+    pub marks: &'static [&'static str],
+    pub run: fn(&mut Tally, &mut Random, Length) -> Result<(), Difference>,
+}
+
+/// How often each outcome was expected and each mark was hit.
+pub struct Tally {
+    outcomes: Vec<(Outcome, u64)>,
+    marks: Vec<(&'static str, u64)>,
+}
+
+impl Tally {
+    #[must_use]
+    pub fn new(group: &Group) -> Self {
+        Self {
+            outcomes: group.outcomes.iter().map(|&outcome| (outcome, 0)).collect(),
+            marks: group.marks.iter().map(|&mark| (mark, 0)).collect(),
+        }
+    }
+
+    pub fn count(&mut self, call: &'static str, number: u32) {
+        raise(&mut self.outcomes, (call, number));
+    }
+
+    pub fn mark(&mut self, mark: &'static str) {
+        raise(&mut self.marks, mark);
+    }
+
+    #[must_use]
+    pub fn cases(&self) -> u64 {
+        self.outcomes.iter().map(|(_, count)| count).sum()
+    }
+
+    /// What the group had to hit and didn't.
+    #[must_use]
+    pub fn never_hit(&self) -> Vec<String> {
+        let outcomes = self.outcomes.iter().filter(|(_, count)| *count == 0);
+        let marks = self.marks.iter().filter(|(_, count)| *count == 0);
+        outcomes
+            .map(|((call, number), _)| format!("{call} {}", outcome_name(*number)))
+            .chain(marks.map(|(mark, _)| (*mark).to_string()))
+            .collect()
+    }
+}
+
+impl fmt::Display for Tally {
+    fn fmt(&self, formatter: &mut fmt::Formatter<'_>) -> fmt::Result {
+        write!(formatter, "{} cases", self.cases())?;
+        let mut by_number = BTreeMap::new();
+        for ((_, number), count) in &self.outcomes {
+            *by_number.entry(*number).or_insert(0) += count;
+        }
+        for (number, count) in by_number {
+            write!(formatter, ", {} {count}", outcome_name(number))?;
+        }
+        for (mark, count) in &self.marks {
+            write!(formatter, ", {mark} {count}")?;
+        }
+        Ok(())
+    }
+}
+
+fn outcome_name(number: u32) -> String {
+    match number {
+        0 => "accepted".to_string(),
+        refusal => format!("refused-{refusal}"),
+    }
+}
+
+fn raise<K: PartialEq>(counts: &mut Vec<(K, u64)>, key: K) {
+    match counts.iter_mut().find(|(known, _)| *known == key) {
+        Some((_, count)) => *count += 1,
+        None => counts.push((key, 1)),
+    }
+}
