@@ -45,10 +45,13 @@ unfoldable pub isOne : Optional → Bool
 isOne Absent = false
 isOne (Present v) = eqb v 1
 
--- at most n, where there is a value
-unfoldable pub atMost : ℕ → Optional → Bool
-atMost n Absent = true
-atMost n (Present v) = leb v n
+-- what is asked of a value, where there is one
+unfoldable pub whenPresent : (ℕ → Bool) → Optional → Bool
+whenPresent test Absent = true
+whenPresent test (Present v) = test v
+
+unfoldable pub upTo : ℕ → ℕ → Bool
+upTo n v = leb v n
 
 -- ---- which settings are present: table H.2.4's conditions
 
@@ -62,17 +65,17 @@ hasPriority discard sample-offset aligned = eqb discard 0 & (isPresent sample-of
 
 -- present exactly where the rule says so, and then at most n
 unfoldable pub ruled : Bool → ℕ → Optional → Bool
-ruled there n o = atMost n o & iff (isPresent o) there
+ruled there n o = whenPresent (upTo n) o & iff (isPresent o) there
 
 -- ---- writable
 
 unfoldable pub writableConfig : EmdfPayloadConfig → Bool
 writableConfig t =
-    atMost 2047 (t .«sample_offset»)
-    & atMost 4_196_351 (t .duration)
-    & atMost 6_148_914_691_236_517_203 (t .«group_id»)
-    & leb (t .«codec_data_present») 1
-    & leb (t .«discard_unknown_payload») 1
+    whenPresent (upTo 2047) (t .«sample_offset»)
+    & whenPresent (upTo 4_196_351) (t .duration)
+    & whenPresent (upTo 6_148_914_691_236_517_203) (t .«group_id»)
+    & upTo 1 (t .«codec_data_present»)
+    & upTo 1 (t .«discard_unknown_payload»)
     & ruled (hasAligned (t .«discard_unknown_payload») (t .«sample_offset»)) 1 (t .«payload_frame_aligned»)
     & ruled (isOne (t .«payload_frame_aligned»)) 1 (t .«create_duplicate»)
     & ruled (isOne (t .«payload_frame_aligned»)) 1 (t .«remove_duplicate»)
@@ -218,3 +221,16 @@ bytesOf (suc n) bs = bitsNumber (take 8 bs) ∷ bytesOf n (drop 8 bs)
 
 unfoldable pub carrier : Contents → List ℕ
 carrier c = bytesOf (4 + declared c) (carrierBits c)
+
+-- ---- bytes: what every slice holds, and so nothing that a call has to ask
+
+unfoldable pub allBytes : List ℕ → Bool
+allBytes [] = true
+allBytes (b ∷ bs) = ltb b 256 & allBytes bs
+
+unfoldable pub bodiesAreBytes : List Payload → Bool
+bodiesAreBytes [] = true
+bodiesAreBytes (x ∷ xs) = allBytes (x .body) & bodiesAreBytes xs
+
+unfoldable pub contentsAreBytes : Contents → Bool
+contentsAreBytes c = bodiesAreBytes (c .payloads) & allBytes (c .primary) & allBytes (c .secondary)

@@ -100,6 +100,20 @@ pub enum JocValidationProfile {
     ObservedVendorCompat,
 }
 
+// The settings as table 56 names them.
+pub enum JocProfileField {
+    SampleOffset,
+    Duration,
+    GroupId,
+    CodecDataPresent,
+    DiscardUnknownPayload,
+    PayloadFrameAligned,
+    CreateDuplicate,
+    RemoveDuplicate,
+    Priority,
+    ProcessingAllowed,
+}
+
 pub enum JocValidationStatus {
     NormativeCompliant,
     AcceptedWithDeviation,

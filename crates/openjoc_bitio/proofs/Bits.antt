@@ -1,15 +1,16 @@
 -- Laws of bits and of the numbers that they make, for every crate that reads or writes them. Assumes nothing.
 use mathlib.Core.Path.{_≡_, refl, sym, ap, _∙_}
-use mathlib.Core.List.{List, _++_}
+use mathlib.Core.List.{List, _∷_, _++_}
 use Prim.Native.Nat.{ℕ, zero, suc, _+_, _-_, _*_, _/_, _%_, _^_, _<_, _≤_}
-use native.Mathlib.Nat.{pow-suc, add-zero, add-suc, suc-add, add-assoc, mul-assoc, mul-one, one-mul, mod-one, zero-add}
+use native.Mathlib.Nat.{pow-suc, add-zero, add-suc, add-assoc, mul-assoc, mul-comm, mul-one, mod-one, mul-add-div-right}
 use native.Mathlib.Numerals.{add-one}
 use native.Mathlib.Omega.{arith}
 use lib.ListN.{length, getD, take, drop, List·getD-append}
 use lib.Seq.{getD-take, getD-drop}
 use lib.Dec.{lit<}
-use lib.Pow.{mod-pow-add, shr-shr, pow-mono}
-use Rattle.openjoc_bitio.specs.Bits.{bitAt, bitsValue}
+use lib.Pow.{mod-pow-add, shr-shr, pow-mono, pow-add, pow-pos}
+use lib.Pow.{split as pow-split}
+use Rattle.openjoc_bitio.specs.Bits.{bitAt, bitsValue, numberBits}
 
 pub bit-range : (s : List ℕ) (p : ℕ) → bitAt s p < 2
 unfolding bitAt
@@ -100,3 +101,32 @@ pub value-turn : (s : List ℕ) (p i t v r q : ℕ) → i + t ≤ 64 → v ≡ b
 value-turn s p i t v r q h a b d =
     let e : v * r + q ≡ bitsValue s p (i + t) = rw (a, b, d, value-split) in
     (e, (let m : 2 ^ (i + t) ≤ 2 ^ 64 = pow-mono h in omega (arith, value-range s p (i + t))))
+
+-- ---- the bits of a number
+
+pub length-number : (w v : ℕ) → length (numberBits w v) ≡ w
+unfolding numberBits
+length-number zero v = refl
+length-number (suc w) v = ap suc (length-number w v)
+
+-- what stands above bit j of a sum does not reach it
+bit-below : (x l j d : ℕ) → (x * 2 ^ (j + 1 + d) + l) / 2 ^ j % 2 ≡ l / 2 ^ j % 2
+bit-below x l j d =
+    let e : x * 2 ^ (j + 1 + d) ≡ x * 2 ^ d * 2 * 2 ^ j = rw (pow-add 2 (j + 1) d, pow-add 2 j 1, mul-comm (2 ^ j * 2 ^ 1) (2 ^ d), mul-comm (2 ^ j) (2 ^ 1), ← mul-assoc, ← mul-assoc) in
+    rw (e, mul-add-div-right (pow-pos j)) (omega arith)
+
+-- the low bits of a number are those of its rest
+pub number-high : (w d x l : ℕ) → numberBits w (x * 2 ^ (w + d) + l) ≡ numberBits w l
+unfolding numberBits
+number-high zero d x l = refl
+number-high (suc w) d x l =
+    let e : suc w + d ≡ w + 1 + d = omega arith in
+    let f : suc w + d ≡ w + suc d = omega arith in
+    let h : (x * 2 ^ (suc w + d) + l) / 2 ^ w % 2 ≡ l / 2 ^ w % 2 = rw e (bit-below x l w d) in
+    let t : numberBits w (x * 2 ^ (suc w + d) + l) ≡ numberBits w l = rw f (number-high w (suc d) x l) in
+    rw (h, t)
+
+pub number-low : (w v : ℕ) → numberBits w (v % 2 ^ w) ≡ numberBits w v
+number-low w v =
+    let e : v / 2 ^ w * 2 ^ (w + 0) + v % 2 ^ w ≡ v = rw add-zero (pow-split v w) in
+    sym (number-high w 0 (v / 2 ^ w) (v % 2 ^ w)) ∙ ap (numberBits w) e

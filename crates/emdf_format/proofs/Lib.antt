@@ -1,0 +1,9 @@
+pub mod Standing
+pub mod Variable
+pub mod Fields
+pub mod Config
+pub mod Payloads
+pub mod Container
+pub mod Lengths
+pub mod Bytes
+pub mod Carrier

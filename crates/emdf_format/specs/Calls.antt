@@ -1,0 +1,173 @@
+-- What the calls on a carrier answer: the refusals' numbers and figures, records, class, bodies. Assumes nothing.
+use mathlib.Core.Bool.{Bool, true, false, not, _||_}
+use mathlib.Core.List.{List, [], _∷_, _++_}
+use mathlib.Core.Option.{Option, none, some}
+use Prim.Native.Nat.{ℕ, zero, suc, _+_, _/_, _%_}
+use lib.ListN.{length, take, drop, getElem?}
+use lib.Dec.{leb, eqb}
+use Rattle.openjoc_bitio.specs.Choice.{if_then_else_}
+use Rattle.openjoc_bitio.specs.Bits.{bitsValue}
+use Rattle.openjoc_bitio.specs.Cursor as bit
+use Rattle.emdf_format.specs.declared.EmdfError.{EmdfError}
+use Rattle.emdf_format.specs.declared.EmdfError.the-variants.{TruncatedContainer, InvalidSyncword, Bit, InvalidVariableBits, VariableBitsGroupLimit, ValueOverflow, UnsupportedVersion, NonzeroReservedData, ReservedPrimaryProtectionLength, ExcessPadding, NonzeroPadding}
+use Rattle.emdf_format.specs.declared.RecordsError.{RecordsError}
+use Rattle.emdf_format.specs.declared.RecordsError.the-variants as RecordsError
+use Rattle.emdf_format.specs.declared.BodyError.{BodyError}
+use Rattle.emdf_format.specs.declared.BodyError.the-variants as BodyError
+use Rattle.emdf_format.specs.declared.BodyAnswer.{BodyAnswer}
+use Rattle.emdf_format.specs.declared.BodyAnswer.the-variants as BodyAnswer
+use Rattle.emdf_format.specs.declared.JocProfileError.{JocProfileError}
+use Rattle.emdf_format.specs.declared.JocProfileError.the-variants as JocProfileError
+use Rattle.emdf_format.specs.declared.EditError.{EditError}
+use Rattle.emdf_format.specs.declared.EditError.the-variants as EditError
+use Rattle.emdf_format.specs.declared.PayloadRecord.{PayloadRecord}
+use Rattle.emdf_format.specs.Contents.{_&_}
+use Rattle.emdf_format.specs.Reading.{Found, Container, Reading, accepted, refusal, reading}
+
+-- ---- a refusal's number in document 01, and its figures
+
+unfoldable pub number : EmdfError → ℕ
+number (TruncatedContainer declared available) = 1
+number (InvalidSyncword actual) = 2
+number (Bit why) = bit.number why
+number (InvalidVariableBits width limit) = 5
+number (VariableBitsGroupLimit width limit) = 6
+number ValueOverflow = 7
+number (UnsupportedVersion version) = 8
+number NonzeroReservedData = 9
+number ReservedPrimaryProtectionLength = 10
+number (ExcessPadding bits) = 11
+number NonzeroPadding = 12
+
+unfoldable pub figures : EmdfError → List ℕ
+figures (TruncatedContainer declared available) = declared ∷ available ∷ []
+figures (InvalidSyncword actual) = actual ∷ []
+figures (Bit why) = bit.figures why
+figures (InvalidVariableBits width limit) = width ∷ limit ∷ []
+figures (VariableBitsGroupLimit width limit) = width ∷ limit ∷ []
+figures ValueOverflow = []
+figures (UnsupportedVersion version) = version ∷ []
+figures NonzeroReservedData = []
+figures ReservedPrimaryProtectionLength = []
+figures (ExcessPadding bits) = bits ∷ []
+figures NonzeroPadding = []
+
+unfoldable pub recordsNumber : RecordsError → ℕ
+recordsNumber (RecordsError.Emdf why) = number why
+recordsNumber (RecordsError.TableTooShort payloads) = 13
+
+unfoldable pub recordsFigures : RecordsError → List ℕ
+recordsFigures (RecordsError.Emdf why) = figures why
+recordsFigures (RecordsError.TableTooShort payloads) = payloads ∷ []
+
+unfoldable pub bodyNumber : BodyError → ℕ
+bodyNumber (BodyError.Emdf why) = number why
+bodyNumber BodyError.NoSuchPayload = 16
+bodyNumber (BodyError.ScratchTooShort needed) = 19
+
+unfoldable pub bodyFigures : BodyError → List ℕ
+bodyFigures (BodyError.Emdf why) = figures why
+bodyFigures BodyError.NoSuchPayload = []
+bodyFigures (BodyError.ScratchTooShort needed) = needed .0 ∷ []
+
+unfoldable pub profileNumber : JocProfileError → ℕ
+profileNumber (JocProfileError.Emdf why) = number why
+profileNumber (JocProfileError.PayloadCount oamd joc) = 14
+profileNumber (JocProfileError.Configuration deviations count) = 15
+
+unfoldable pub profileFigures : JocProfileError → List ℕ
+profileFigures (JocProfileError.Emdf why) = figures why
+profileFigures (JocProfileError.PayloadCount oamd joc) = oamd ∷ joc ∷ []
+profileFigures (JocProfileError.Configuration deviations count) = deviations ∷ count ∷ []
+
+unfoldable pub editNumber : EditError → ℕ
+editNumber (EditError.Emdf why) = number why
+editNumber EditError.TrailingData = 20
+editNumber EditError.NoSuchPlace = 16
+editNumber EditError.NotWritable = 17
+editNumber EditError.TooLong = 18
+editNumber (EditError.DestinationTooShort needed) = 19
+
+unfoldable pub editFigures : EditError → List ℕ
+editFigures (EditError.Emdf why) = figures why
+editFigures EditError.TrailingData = []
+editFigures EditError.NoSuchPlace = []
+editFigures EditError.NotWritable = []
+editFigures EditError.TooLong = []
+editFigures (EditError.DestinationTooShort needed) = needed .0 ∷ []
+
+-- ---- records
+
+unfoldable pub recordsOf : List Found → List PayloadRecord
+recordsOf [] = []
+recordsOf (x ∷ xs) = x .record-of ∷ recordsOf xs
+
+-- a reading that fills a table: 13 is asked only of what a reading accepts
+pub data Records : Type 0 where
+  recorded : ℕ → Container → Records
+  unrecorded : RecordsError → Records
+
+unfoldable pub inTable : ℕ → Reading → Records
+inTable rows (accepted n c) =
+    if leb (length (c .found)) rows then recorded n c else unrecorded (RecordsError.TableTooShort (length (c .found)))
+inTable rows (refusal why) = unrecorded (RecordsError.Emdf why)
+
+-- the table after it: a row a payload, the rest as it was; a refusal leaves all of it
+unfoldable pub tableAfter : Records → List PayloadRecord → List PayloadRecord
+tableAfter (recorded n c) table = recordsOf (c .found) ++ drop (length (c .found)) table
+tableAfter (unrecorded why) table = table
+
+-- ---- class
+
+pub data Class : Type 0 where
+  nonEmdf : Class
+  parsed : ℕ → Container → Class
+  trailingData : ℕ → ℕ → Class
+  malformed : EmdfError → Class
+
+unfoldable pub classOf : Reading → ℕ → Class
+classOf (accepted n c) len = if eqb n len then parsed n c else trailingData n len
+classOf (refusal why) len = malformed why
+
+unfoldable pub classify : List ℕ → Class
+classify s = if leb 2 (length s) & eqb (bitsValue s 0 16) 0x5838 then classOf (reading s) (length s) else nonEmdf
+
+-- ---- bodies
+
+abbrev pub bodyStart : Found → ℕ
+bodyStart x = x .record-of .trace .«payload_body_start_bit» .0
+
+unfoldable pub startsOnByte : Found → Bool
+startsOnByte x = eqb (bodyStart x % 8) 0
+
+-- a body that starts on a byte stays where it is; another one wants room in the scratch
+unfoldable pub moved : Option Found → ℕ → BodyAnswer
+moved none room = BodyAnswer.Refused BodyError.NoSuchPayload
+moved (some x) room =
+    if startsOnByte x || leb (length (x .body)) room
+    then BodyAnswer.Body (record { 0 = bodyStart x }) (record { 0 = length (x .body) })
+    else BodyAnswer.Refused (BodyError.ScratchTooShort (record { 0 = length (x .body) }))
+
+unfoldable pub moveBody : Reading → ℕ → ℕ → BodyAnswer
+moveBody (accepted n c) k room = moved (getElem? (c .found) k) room
+moveBody (refusal why) k room = BodyAnswer.Refused (BodyError.Emdf why)
+
+unfoldable pub foundAt : Reading → ℕ → Option Found
+foundAt (accepted n c) k = getElem? (c .found) k
+foundAt (refusal why) k = none
+
+-- the scratch after a move
+unfoldable pub scratchAfter : Option Found → List ℕ → List ℕ
+scratchAfter none scratch = scratch
+scratchAfter (some x) scratch =
+    if startsOnByte x
+    then scratch
+    else (if leb (length (x .body)) (length scratch) then x .body ++ drop (length (x .body)) scratch else scratch)
+
+-- what the choosing call hands back: a part of the carrier, or of the scratch
+unfoldable pub chooseBody : Option Found → List ℕ → List ℕ → List ℕ
+chooseBody none s scratch = []
+chooseBody (some x) s scratch =
+    if startsOnByte x
+    then take (length (x .body)) (drop (bodyStart x / 8) s)
+    else (if leb (length (x .body)) (length scratch) then take (length (x .body)) scratch else [])
