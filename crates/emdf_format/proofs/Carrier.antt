@@ -2,7 +2,7 @@
 -- writable is accepted, whatever follows it. Assumes nothing.
 use mathlib.Core.Path.{_≡_, refl, sym, ap, _∙_, subst}
 use mathlib.Core.Bool.{Bool, true, false, not}
-use mathlib.Core.List.{List, _++_}
+use mathlib.Core.List.{List, [], _++_}
 use Prim.Native.Nat.{ℕ, zero, suc, _+_, _-_, _*_, _/_, _%_, _^_, _≤_, _<_}
 use native.Mathlib.Omega.{arith}
 use native.Mathlib.Nat.{zero-add, le-refl}
@@ -21,12 +21,11 @@ use Rattle.emdf_format.specs.Syntax.{_⨟_, octetBits}
 use Rattle.emdf_format.specs.Contents.{Contents, writable, contentsAreBytes, containerBits, declared, carrierBits, bytesOf, carrier}
 use Rattle.emdf_format.specs.Reader.{Read, got, refused}
 use Rattle.emdf_format.specs.Reading.{Container, container, Reading, accepted, refusal, consumed, reading, contentsOf}
+use Rattle.emdf_format.specs.Edits.{Bytes}
 use Rattle.emdf_format.proofs.Standing.{Stands, nil, cons, join, part, bitLimit, number-stands, number-read, is-true, if-yes, if-no, T-of, T-not-of, neqb→ne, ne→neqb, length-then, stands-to, stands-in}
+use Rattle.emdf_format.proofs.Payloads.{found-payloads}
 use Rattle.emdf_format.proofs.Container.{Padded, Contained, container-sound, contained-stands, containerFrom, container-exact}
 use Rattle.emdf_format.proofs.Bytes.{packed, octets-stand, declared-is, octets-carrier, length-carrier, carrier-lt}
-
-abbrev pub Bytes : List ℕ → Type 0
-Bytes s = (k : ℕ) → getD s k 0 < 256
 
 limit-whole : (s : List ℕ) (n : ℕ) → length s ≡ n → n ≤ 65539 → bitLimit s (8 * n) ≡ 8 * n
 unfolding bitLimit bitLength
@@ -151,6 +150,12 @@ read-sound s n c bs h = found-is s n c bs (header s n c h)
 pub read-contained : (s : List ℕ) (n : ℕ) (c : Container) → reading s ≡ accepted n c → (q : ℕ) × Contained (take n s) (8 * n) 32 q c
 read-contained s n c h = let d = header s n c h in (d .to, container-sound (d .inner))
 
+-- in the declared bytes the end is their end
+pub read-limit : (s : List ℕ) (n : ℕ) (c : Container) → reading s ≡ accepted n c → (n ≤ length s) × (bitLimit (take n s) (8 * n) ≡ 8 * n)
+read-limit s n c h =
+    let d = header s n c h in
+    (d .there, limit-whole (take n s) n (length-take-le n s (d .there)) (omega (arith, d .size, value-range s 16 16)))
+
 -- ---- B
 
 module _ (c : Contents) (rest : List ℕ) (fit : T (writable c)) (bytes : T (contentsAreBytes c)) (small : declared c ≤ 65535) where
@@ -198,7 +203,38 @@ module _ (c : Contents) (rest : List ℕ) (fit : T (writable c)) (bytes : T (con
         inner = rw w inner;
       }
 
+pub contents-back : (p : ℕ) (c : Contents) → contentsOf (containerFrom p c) ≡ c
+contents-back p c = rw found-payloads
+
 -- B: what is writable, and declares at most 65,535, is accepted where it is written
 pub read-exact : (c : Contents) (rest : List ℕ) → T (writable c) → T (contentsAreBytes c) → declared c ≤ 65535
     → reading (carrier c ++ rest) ≡ accepted (4 + declared c) (containerFrom 32 c)
 read-exact c rest fit bytes small = header-go _ _ _ (head c rest fit bytes small)
+
+-- bytes after n change nothing
+pub read-rest : (s rest : List ℕ) (n : ℕ) (c : Container) → reading s ≡ accepted n c → reading (take n s ++ rest) ≡ accepted n c
+read-rest s rest n c h =
+    let d = header s n c h in
+    let t = take n s in
+    let l : length t ≡ n = length-take-le n s (d .there) in
+    let m : length (t ++ rest) ≡ n + length rest = length-append t rest ∙ ap (λ (k : ℕ). k + length rest) l in
+    let same : (p : ℕ) → p + 16 ≤ 32 → bitsValue (t ++ rest) p 16 ≡ bitsValue s p 16 = λ p h.
+    value-append t rest p 16 (omega (arith, l, d .size)) ∙ value-take s n p 16 (omega (arith, d .size)) in
+    let z : take n (t ++ rest) ≡ t = take-at t rest n l in
+    header-go (t ++ rest) n c (record {
+      four = omega (arith, m, d .size);
+      sync = same 0 (omega arith) ∙ d .sync;
+      size = omega (arith, d .size, same 16 (omega arith));
+      there = omega (arith, m);
+      to = d .to;
+      inner = rw z (d .inner);
+    })
+
+-- what is written can be told apart
+pub carrier-injective : (c c′ : Contents) → T (writable c) → T (writable c′) → T (contentsAreBytes c) → T (contentsAreBytes c′)
+    → declared c ≤ 65535 → declared c′ ≤ 65535 → carrier c ≡ carrier c′ → c ≡ c′
+carrier-injective c c′ f f′ b b′ d d′ e =
+    let r = read-exact c [] f b d in
+    let r′ = read-exact c′ [] f′ b′ d′ in
+    let z : containerFrom 32 c ≡ containerFrom 32 c′ = cc in
+    sym (contents-back 32 c) ∙ ap contentsOf z ∙ contents-back 32 c′

@@ -7,3 +7,6 @@ pub mod Container
 pub mod Lengths
 pub mod Bytes
 pub mod Carrier
+pub mod Spans
+pub mod Lists
+pub mod Starred

@@ -230,7 +230,7 @@ found-payloads p [] = refl
 found-payloads p (x ∷ xs) = ap (λ (ys : List Payload). x ∷ ys) (found-payloads (bodyEnd p x) xs)
 
 -- each payload takes a bit at least
-field-long : (w v : ℕ) → 0 < length (variableField w v)
+pub field-long : (w v : ℕ) → 0 < length (variableField w v)
 unfolding variableField
 field-long w v = rw (length-then, length-then) (omega arith)
 

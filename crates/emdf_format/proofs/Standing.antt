@@ -117,6 +117,10 @@ stands-in nil h = absurd (omega arith)
 stands-in (cons {bs = []} l b nil) h = omega arith
 stands-in (cons {bs = x ∷ xs} l b t) h = stands-in t (omega arith)
 
+pub stands-within : {s : List ℕ} {e p q : ℕ} {bs : List ℕ} → Stands s e p q bs → p ≤ bitLimit s e → q ≤ bitLimit s e
+stands-within nil h = h
+stands-within (cons l b t) h = stands-within t l
+
 -- ---- numbers of w bits
 
 pub number-stands : (s : List ℕ) (e p w : ℕ) → w ≤ bitLimit s e - p → Stands s e p (p + w) (numberBits w (bitsValue s p w))

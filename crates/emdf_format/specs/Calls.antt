@@ -1,8 +1,9 @@
 -- What the calls on a carrier answer: the refusals' numbers and figures, records, class, bodies. Assumes nothing.
+use mathlib.Core.Path.{_≡_}
 use mathlib.Core.Bool.{Bool, true, false, not, _||_}
 use mathlib.Core.List.{List, [], _∷_, _++_}
 use mathlib.Core.Option.{Option, none, some}
-use Prim.Native.Nat.{ℕ, zero, suc, _+_, _/_, _%_}
+use Prim.Native.Nat.{ℕ, zero, suc, _+_, _*_, _/_, _%_}
 use lib.ListN.{length, take, drop, getElem?}
 use lib.Dec.{leb, eqb}
 use Rattle.openjoc_bitio.specs.Choice.{if_then_else_}
@@ -139,6 +140,19 @@ bodyStart x = x .record-of .trace .«payload_body_start_bit» .0
 
 unfoldable pub startsOnByte : Found → Bool
 startsOnByte x = eqb (bodyStart x % 8) 0
+
+-- n octets from position p
+unfoldable pub octetsAt : List ℕ → ℕ → ℕ → List ℕ
+octetsAt s p zero = []
+octetsAt s p (suc n) = bitsValue s p 8 ∷ octetsAt s (p + 8) n
+
+-- each body is what stands at its span
+unfoldable pub BodiesAtSpans : List ℕ → List Found → Type 0
+BodiesAtSpans s [] = Unit {0}
+BodiesAtSpans s (x ∷ xs) =
+    (x .body ≡ octetsAt s (bodyStart x) (length (x .body)))
+    × (x .record-of .trace .«payload_body_end_bit» .0 ≡ bodyStart x + 8 * length (x .body))
+    × BodiesAtSpans s xs
 
 -- a body that starts on a byte stays where it is; another one wants room in the scratch
 unfoldable pub moved : Option Found → ℕ → BodyAnswer

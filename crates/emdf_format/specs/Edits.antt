@@ -3,21 +3,18 @@ use mathlib.Core.Path.{_≡_}
 use mathlib.Core.Bool.{Bool, true, false}
 use mathlib.Core.List.{List, [], _∷_, _++_}
 use mathlib.Core.Logic.{_↔_}
-use Prim.Native.Nat.{ℕ, zero, suc, _+_, _*_, _<_, _≤_}
+use Prim.Native.Nat.{ℕ, zero, suc, _+_, _<_, _≤_}
 use lib.ListN.{length, getD, take, drop}
 use lib.Dec.{leb, ltb, eqb}
 use Rattle.openjoc_bitio.specs.Choice.{if_then_else_}
-use Rattle.openjoc_bitio.specs.Bits.{bitsValue}
-use Rattle.openjoc_bitio.specs.declared.ByteCount.{ByteCount}
 use Rattle.emdf_format.specs.declared.EmdfPayloadConfig.{EmdfPayloadConfig}
-use Rattle.emdf_format.specs.declared.PayloadRecord.{PayloadRecord}
 use Rattle.emdf_format.specs.declared.EditError.{EditError}
 use Rattle.emdf_format.specs.declared.EditError.the-variants.{Emdf, TrailingData, NoSuchPlace, NotWritable, TooLong, DestinationTooShort}
 use Rattle.emdf_format.specs.declared.EditAnswer.{EditAnswer}
 use Rattle.emdf_format.specs.declared.EditAnswer.the-variants.{Written, Refused}
 use Rattle.emdf_format.specs.Contents.{Payload, Contents, writable, declared, carrier}
-use Rattle.emdf_format.specs.Reading.{Found, Container, Reading, accepted, refusal, reading, contentsOf}
-use Rattle.emdf_format.specs.Calls.{Records, recorded, inTable, recordsOf, bodyStart}
+use Rattle.emdf_format.specs.Reading.{Container, Reading, accepted, refusal, reading, contentsOf}
+use Rattle.emdf_format.specs.Calls.{recorded, inTable, BodiesAtSpans}
 
 -- the steps of document 01, with their arguments; places count from 0
 pub data Edit : Type 0 where
@@ -152,8 +149,43 @@ plainAnswers c (t ∷ ts) =
     let o : Stepped = step (t .edit) (length (t .destination)) c in
     stepAnswer o ∷ plainAnswers (stepContents o c) ts
 
--- ---- what is claimed of whole lists
+-- ---- what is claimed of whole lists: document 01's demand 3
 
--- bytes are bytes
-pub Bytes : List ℕ → Type 0
+-- bytes are bytes: so is what every slice holds
+abbrev pub Bytes : List ℕ → Type 0
 Bytes s = (i : ℕ) → getD s i 0 < 256
+
+unfoldable pub EditBytes : Edit → Type 0
+EditBytes (bodyEdit k bs) = Bytes bs
+EditBytes (settingsEdit k t) = Unit {0}
+EditBytes (dropEdit k) = Unit {0}
+EditBytes (insertEdit k i t bs) = Bytes bs
+EditBytes (keyEdit i) = Unit {0}
+EditBytes (protectionEdit a b) = Bytes a × Bytes b
+
+unfoldable pub TaskBytes : List Task → Type 0
+TaskBytes [] = Unit {0}
+TaskBytes (t ∷ ts) = EditBytes (t .edit) × TaskBytes ts
+
+-- reading s answers its length and the contents c: key id, count, protections; in a table long enough each id and settings; and each
+-- body's bytes stand at its span
+pub record ReadsAs (s : List ℕ) (c : Contents) : Type 0 where
+  pub container : Container
+  pub whole : reading s ≡ accepted (length s) container
+  pub contents : contentsOf container ≡ c
+  pub records : (rows : ℕ) → length (c .payloads) ≤ rows → inTable rows (reading s) ≡ recorded (length s) container
+  pub bodies : BodiesAtSpans s (container .found)
+
+-- a list of edits from one carrier: each answer is the plain one, and what is left reads as the plain contents
+pub record Follows (s : List ℕ) (c : Contents) (ts : List Task) : Type 0 where
+  pub answered : answers s ts ≡ plainAnswers c ts
+  pub reads : ReadsAs (leaves s ts) (plainContents c ts)
+
+-- any two carriers that are each exactly one container, any two lists of edits with destinations of any content and length
+pub record EqualityOfCarriers : Type 0 where
+  pub claim : (s₁ s₂ : List ℕ) (k₁ k₂ : Container) (ts₁ ts₂ : List Task)
+      → Bytes s₁ → Bytes s₂ → TaskBytes ts₁ → TaskBytes ts₂
+      → reading s₁ ≡ accepted (length s₁) k₁ → reading s₂ ≡ accepted (length s₂) k₂
+      → ((leaves s₁ ts₁ ≡ leaves s₂ ts₂) ↔ (plainContents (contentsOf k₁) ts₁ ≡ plainContents (contentsOf k₂) ts₂))
+      × Follows s₁ (contentsOf k₁) ts₁
+      × Follows s₂ (contentsOf k₂) ts₂

@@ -1,0 +1,114 @@
+-- The starred carriers of document 01, on the definitions, as one statement. Assumes nothing.
+use mathlib.Core.Path.{_≡_, refl}
+use mathlib.Core.Bool.{Bool, true, false}
+use mathlib.Core.List.{List, [], _∷_, _++_}
+use Prim.Native.Nat.{ℕ}
+use lib.ListN.{length}
+use Rattle.openjoc_bitio.specs.Bits.{bitAt, bitsValue, numberBits}
+use Rattle.openjoc_bitio.specs.Cursor.{bitLength, bitsRemaining, readBits}
+use Rattle.emdf_format.specs.declared.Optional.the-variants.{Absent}
+use Rattle.emdf_format.specs.declared.EmdfError.the-variants.{TruncatedContainer, ExcessPadding}
+use Rattle.emdf_format.specs.declared.EmdfPayloadConfig.{EmdfPayloadConfig}
+use Rattle.emdf_format.specs.declared.EditError.the-variants.{DestinationTooShort}
+use Rattle.emdf_format.specs.declared.EditAnswer.the-variants.{Written, Refused}
+use Rattle.emdf_format.specs.Syntax.{_⨟_, groupsBefore, variableField, countBefore, groups, escape, extendedField, octetBits, flaggedField, presentField}
+use Rattle.emdf_format.specs.Contents.{Payload, Contents, _&_, iff, isPresent, isOne, whenPresent, upTo, hasAligned, hasPriority, ruled, writableConfig, writablePayload, writablePayloads, protectionLength, protectionCode, codable, writable, extensionBits, flaggedBits, presentBits, neededConfig, neededPayload, neededPayloads, neededBits, declared, sampleOffsetBits, codecDataBits, configBits, payloadBits, payloadsBits, protectionBits, containerBits, carrierBits, bitsNumber, bytesOf, carrier}
+use Rattle.emdf_format.specs.Reader.{andThen, _>>=_, give, ask, choose, position, remaining, fromBits, bits, groupsFrom, variableBits, extendedValue, octets, present, flagged}
+use Rattle.emdf_format.specs.Reading.{reserved, sampleOffset, codecData, payloadConfig, Found, traceOf, payloadAfter, payloads, Container, padding, container, Reading, accepted, refusal, consumed, reading, payloadsOf, contentsOf}
+use Rattle.emdf_format.specs.Calls.{number, figures, Class, nonEmdf, trailingData, classOf, classify}
+use Rattle.emdf_format.specs.Edits.{bodyEdit, dropEdit, withBody, withPayloads, change, placeExists, inRoom, weighed, step, stepAnswer, written, stepFrom, edited}
+
+abbrev A : List ℕ
+A = 0x58 ∷ 0x38 ∷ 0x00 ∷ 0x03 ∷ 0x00 ∷ 0x12 ∷ 0x94 ∷ []
+
+abbrev B : List ℕ
+B = 0x58 ∷ 0x38 ∷ 0x00 ∷ 0x07 ∷ 0x00 ∷ 0x42 ∷ 0x02 ∷ 0xc3 ∷ 0x02 ∷ 0x52 ∷ 0x80 ∷ []
+
+-- B with an empty body
+abbrev emptied : List ℕ
+emptied = 0x58 ∷ 0x38 ∷ 0x00 ∷ 0x06 ∷ 0x00 ∷ 0x42 ∷ 0x00 ∷ 0x02 ∷ 0x52 ∷ 0x80 ∷ []
+
+abbrev discarded : EmdfPayloadConfig
+discarded = record {
+  «sample_offset» = Absent;
+  duration = Absent;
+  «group_id» = Absent;
+  «codec_data_present» = 0;
+  «discard_unknown_payload» = 1;
+  «payload_frame_aligned» = Absent;
+  «create_duplicate» = Absent;
+  «remove_duplicate» = Absent;
+  priority = Absent;
+  «processing_allowed» = Absent;
+}
+
+abbrev inA : Container
+inA = record { key-id = 0; found = []; primary = 0xa5 ∷ []; secondary = [] }
+
+abbrev foundB : Found
+foundB = record { record-of = record { id = 1; config = discarded; trace = traceOf 37 42 47 56 64 }; body = 0xc3 ∷ [] }
+
+abbrev inB : Container
+inB = record { key-id = 0; found = foundB ∷ []; primary = 0xa5 ∷ []; secondary = [] }
+
+-- destinations with a byte to spare
+abbrev eight : List ℕ
+eight = 9 ∷ 9 ∷ 9 ∷ 9 ∷ 9 ∷ 9 ∷ 9 ∷ 9 ∷ []
+
+abbrev eleven : List ℕ
+eleven = 9 ∷ 9 ∷ 9 ∷ eight
+
+pub record Starred : Type 0 where
+  pub A-reads : reading A ≡ accepted 7 inA
+  pub A-written : carrier (contentsOf inA) ≡ A
+  pub B-reads : reading B ≡ accepted 11 inB
+  pub B-written : carrier (contentsOf inB) ≡ B
+  pub drop-answers : edited (dropEdit 0) B eight .answer ≡ Written (record { 0 = 7 })
+  pub drop-writes : edited (dropEdit 0) B eight .destination ≡ A ++ 9 ∷ []
+  pub drop-wants-room : edited (dropEdit 0) B (9 ∷ []) .answer ≡ Refused (DestinationTooShort (record { 0 = 7 }))
+  pub body-answers : edited (bodyEdit 0 []) B eleven .answer ≡ Written (record { 0 = 10 })
+  pub body-writes : edited (bodyEdit 0 []) B eleven .destination ≡ emptied ++ 9 ∷ []
+  pub ten-left : reading (0x58 ∷ 0x38 ∷ 0x00 ∷ 0x04 ∷ 0x00 ∷ 0x12 ∷ 0x94 ∷ 0x00 ∷ []) ≡ refusal (ExcessPadding 10)
+  pub ten-left-number : number (ExcessPadding 10) ≡ 11
+  pub ten-left-figures : figures (ExcessPadding 10) ≡ 10 ∷ []
+  pub two-bytes : reading (0x58 ∷ 0x38 ∷ []) ≡ refusal (TruncatedContainer 4 2)
+  pub two-bytes-number : number (TruncatedContainer 4 2) ≡ 1
+  pub two-bytes-figures : figures (TruncatedContainer 4 2) ≡ 4 ∷ 2 ∷ []
+  pub one-byte : classify (0x58 ∷ []) ≡ nonEmdf
+  pub A-trailed : classify (A ++ 0x00 ∷ []) ≡ trailingData 7 8
+  pub three : variableField 2 3 ≡ 1 ∷ 1 ∷ 0 ∷ []
+  pub four : variableField 2 4 ≡ 0 ∷ 0 ∷ 1 ∷ 0 ∷ 0 ∷ 0 ∷ []
+  pub nineteen : variableField 2 19 ≡ 1 ∷ 1 ∷ 1 ∷ 1 ∷ 1 ∷ 0 ∷ []
+  pub id-30 : length (extendedField 5 30) ≡ 5
+  pub id-31 : extendedField 5 31 ≡ 1 ∷ 1 ∷ 1 ∷ 1 ∷ 1 ∷ 0 ∷ 0 ∷ 0 ∷ 0 ∷ 0 ∷ 0 ∷ []
+  pub size-255 : length (variableField 8 255) ≡ 9
+  pub size-256 : length (variableField 8 256) ≡ 18
+
+pub starred : Starred
+unfolding bitAt bitsValue numberBits bitLength bitsRemaining readBits _⨟_ groupsBefore variableField countBefore groups escape extendedField octetBits flaggedField presentField _&_ iff isPresent isOne whenPresent upTo hasAligned hasPriority ruled writableConfig writablePayload writablePayloads protectionLength protectionCode codable writable extensionBits flaggedBits presentBits neededConfig neededPayload neededPayloads neededBits declared sampleOffsetBits codecDataBits configBits payloadBits payloadsBits protectionBits containerBits carrierBits bitsNumber bytesOf carrier andThen _>>=_ give ask choose position remaining fromBits bits groupsFrom variableBits extendedValue octets present flagged reserved sampleOffset codecData payloadConfig payloadAfter payloads padding container consumed reading payloadsOf number figures classOf classify withBody withPayloads change placeExists inRoom weighed step stepAnswer written stepFrom edited
+starred = record {
+  A-reads = refl;
+  A-written = refl;
+  B-reads = refl;
+  B-written = refl;
+  drop-answers = refl;
+  drop-writes = refl;
+  drop-wants-room = refl;
+  body-answers = refl;
+  body-writes = refl;
+  ten-left = refl;
+  ten-left-number = refl;
+  ten-left-figures = refl;
+  two-bytes = refl;
+  two-bytes-number = refl;
+  two-bytes-figures = refl;
+  one-byte = refl;
+  A-trailed = refl;
+  three = refl;
+  four = refl;
+  nineteen = refl;
+  id-30 = refl;
+  id-31 = refl;
+  size-255 = refl;
+  size-256 = refl;
+}
