@@ -12,13 +12,13 @@ use lib.Pow.{split as pow-split}
 use lib.Arith.{digits-lt}
 use lib.Dec.{ltb}
 use Rattle.openjoc_bitio.specs.Choice.{if_then_else_}
-use Rattle.openjoc_bitio.specs.Bits.{bitAt, bitsValue, numberBits}
+use Rattle.openjoc_bitio.specs.Bits.{bitsValue, numberBits}
 use Rattle.openjoc_bitio.proofs.Bits.{value-octet, length-number, number-high, number-low}
 use Rattle.emdf_format.specs.declared.Optional.{Optional}
 use Rattle.emdf_format.specs.declared.Optional.the-variants.{Absent, Present}
 use Rattle.emdf_format.specs.declared.EmdfPayloadConfig.{EmdfPayloadConfig}
 use Rattle.emdf_format.specs.Syntax.{_⨟_, groupsBefore, variableField, escape, extendedField, octetBits, flaggedField, presentField}
-use Rattle.emdf_format.specs.Contents.{Payload, Contents, codecDataBits, sampleOffsetBits, configBits, payloadBits, payloadsBits, protectionBits, containerBits, neededBits, declared, carrierBits, bitsNumber, bytesOf, carrier}
+use Rattle.emdf_format.specs.Contents.{Payload, Contents, codecDataBits, sampleOffsetBits, configBits, payloadBits, payloadsBits, protectionBits, containerBits, declared, carrierBits, bitsNumber, bytesOf, carrier}
 use Rattle.emdf_format.proofs.Standing.{Stands, nil, cons, join, bitLimit, number-stands, length-then, stands-to}
 use Rattle.emdf_format.proofs.Lengths.{length-container}
 

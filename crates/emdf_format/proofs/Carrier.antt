@@ -3,13 +3,12 @@
 use mathlib.Core.Path.{_≡_, refl, sym, ap, _∙_, subst}
 use mathlib.Core.Bool.{Bool, true, false, not}
 use mathlib.Core.List.{List, [], _++_}
-use Prim.Native.Nat.{ℕ, zero, suc, _+_, _-_, _*_, _/_, _%_, _^_, _≤_, _<_}
+use Prim.Native.Nat.{ℕ, _+_, _-_, _*_, _^_, _≤_, _<_}
 use native.Mathlib.Omega.{arith}
-use native.Mathlib.Nat.{zero-add, le-refl}
-use lib.ListN.{length, getD, take, drop, length-append, List·getD-eq-default}
+use lib.ListN.{length, getD, take, length-append, List·getD-eq-default}
 use native.Mathlib.Decide.{decLt}
 use lib.Seq.{take-at, length-take-le, getD-take, take-length}
-use lib.Dec.{T, leb, ltb, eqb, leb→le, le→leb, ltb→lt, lt→ltb, nltb→le, eqb→eq, eqb-refl, lit<, lit≤}
+use lib.Dec.{T, ltb, eqb, nltb→le, eqb→eq, lit<}
 use lib.Arith.{le→nltb}
 use borrow.Author.Tests.{le-leb, lt-ltb}
 use Rattle.openjoc_bitio.specs.Choice.{if_then_else_}
@@ -17,12 +16,11 @@ use Rattle.openjoc_bitio.specs.Bits.{bitsValue, numberBits}
 use Rattle.openjoc_bitio.specs.Cursor.{bitLength}
 use Rattle.openjoc_bitio.proofs.Bits.{length-number, value-take, value-append, value-range}
 use Rattle.emdf_format.specs.declared.EmdfError.the-variants.{TruncatedContainer, InvalidSyncword}
-use Rattle.emdf_format.specs.Syntax.{_⨟_, octetBits}
 use Rattle.emdf_format.specs.Contents.{Contents, writable, contentsAreBytes, containerBits, declared, carrierBits, bytesOf, carrier}
 use Rattle.emdf_format.specs.Reader.{Read, got, refused}
-use Rattle.emdf_format.specs.Reading.{Container, container, Reading, accepted, refusal, consumed, reading, contentsOf}
+use Rattle.emdf_format.specs.Reading.{Container, container, accepted, refusal, consumed, reading, contentsOf}
 use Rattle.emdf_format.specs.Edits.{Bytes}
-use Rattle.emdf_format.proofs.Standing.{Stands, nil, cons, join, part, bitLimit, number-stands, number-read, is-true, if-yes, if-no, T-of, T-not-of, neqb→ne, ne→neqb, length-then, stands-to, stands-in}
+use Rattle.emdf_format.proofs.Standing.{Stands, join, part, bitLimit, number-stands, number-read, is-true, if-no, T-of, T-not-of, length-then, stands-to, stands-in}
 use Rattle.emdf_format.proofs.Payloads.{found-payloads}
 use Rattle.emdf_format.proofs.Container.{Padded, Contained, container-sound, contained-stands, containerFrom, container-exact}
 use Rattle.emdf_format.proofs.Bytes.{packed, octets-stand, declared-is, octets-carrier, length-carrier, carrier-lt}

@@ -1,6 +1,6 @@
 -- EmdfPayloadConfig: what is read is what is written, and writable. Assumes nothing.
 use mathlib.Core.Path.{_≡_, refl}
-use mathlib.Core.Bool.{Bool, true, false}
+use mathlib.Core.Bool.{Bool, true}
 use mathlib.Core.List.{List, [], _∷_}
 use Prim.Native.Nat.{ℕ, zero, suc, _^_, _≤_, _<_}
 use native.Mathlib.Omega.{arith}
@@ -10,7 +10,7 @@ use Rattle.openjoc_bitio.specs.Bits.{numberBits}
 use Rattle.emdf_format.specs.declared.EmdfPayloadConfig.{EmdfPayloadConfig}
 use Rattle.emdf_format.specs.Syntax.{_⨟_, variableField, capacity, flaggedField, presentField}
 use Rattle.emdf_format.specs.Contents.{_&_, whenPresent, upTo, hasAligned, isOne, hasPriority, ruled, writableConfig, codecDataBits, sampleOffsetBits, configBits}
-use Rattle.emdf_format.specs.Reader.{got, Reader, _>>=_, give, ask, choose, bits, variableBits, present, flagged}
+use Rattle.emdf_format.specs.Reader.{got, bits, variableBits, present, flagged}
 use Rattle.emdf_format.specs.Reading.{reserved, sampleOffset, codecData, payloadConfig}
 use Rattle.emdf_format.proofs.Standing.{Stands, nil, cons, join, part, Codec, bits-law, bind-inv, bind-go, choose-inv, choose-this, choose-that, step, chosen, taken, ask-end, ask-fine, give-inv, give-go, bit-zero, bit-one, neqb→ne, both, fits, and}
 use Rattle.emdf_format.proofs.Fields.{fitsVariable, refit, variable, present-law, flagged-law}

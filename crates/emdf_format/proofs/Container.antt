@@ -6,17 +6,17 @@ use Prim.Native.Nat.{ℕ, zero, suc, _+_, _-_, _*_, _^_, _≤_, _<_}
 use native.Mathlib.Omega.{arith}
 use lib.ListN.{length}
 use lib.Pow.{pow-pos}
-use lib.Dec.{T, leb, ltb, eqb, leb→le, le→leb, ltb→lt, lt→ltb, eqb→eq, eqb-refl, lit<, lit≤}
+use lib.Dec.{T, leb, ltb, eqb, leb→le, le→leb, ltb→lt, lt→ltb, eqb→eq, lit<, lit≤}
 use Rattle.openjoc_bitio.specs.Choice.{if_then_else_}
 use Rattle.openjoc_bitio.specs.Bits.{numberBits}
 use Rattle.openjoc_bitio.proofs.Bits.{length-number}
-use Rattle.emdf_format.specs.Syntax.{_⨟_, escape, extendedField, octetBits}
-use Rattle.emdf_format.specs.Contents.{_&_, Payload, Contents, payloadsBits, protectionLength, protectionCode, codable, protectionBits, writable, containerBits, allBytes, contentsAreBytes}
-use Rattle.emdf_format.specs.Reader.{got, Reader, _>>=_, give, ask, cursorAt, remaining, bits, extendedValue, octets}
-use Rattle.emdf_format.specs.Reading.{Found, Container, payloads, padding, container, payloadsOf, contentsOf}
-use Rattle.emdf_format.proofs.Standing.{Stands, nil, join, part, Codec, bits-law, bitLimit, remaining-limit, bind-inv, bind-go, ask-inv, ask-go, ask-end, ask-fine, step, asked, taken, give-inv, give-go, neqb→ne, ne→neqb, same-what, same-to, both, fits, and, length-then, stands-to, stands-in}
+use Rattle.emdf_format.specs.Syntax.{_⨟_, escape, extendedField}
+use Rattle.emdf_format.specs.Contents.{_&_, Contents, protectionLength, protectionCode, codable, protectionBits, writable, containerBits, allBytes, contentsAreBytes}
+use Rattle.emdf_format.specs.Reader.{got, remaining, extendedValue}
+use Rattle.emdf_format.specs.Reading.{Container, payloads, padding, container, contentsOf}
+use Rattle.emdf_format.proofs.Standing.{Stands, join, part, Codec, bits-law, bitLimit, remaining-limit, bind-inv, bind-go, ask-inv, ask-go, ask-end, ask-fine, step, asked, taken, give-inv, give-go, neqb→ne, ne→neqb, same-what, same-to, both, fits, and, stands-to, stands-in}
 use Rattle.emdf_format.proofs.Fields.{sized, fitsExtended, extended, octets-law}
-use Rattle.emdf_format.proofs.Payloads.{word, key-law, encodable, allEncodable, Traced, Listed, traced-stands, payloads-sound, payloads-exact, payloads-long, allFoundFrom, encodable-from, encodable-to}
+use Rattle.emdf_format.proofs.Payloads.{word, key-law, Listed, traced-stands, payloads-sound, payloads-exact, payloads-long, allFoundFrom, encodable-from, encodable-to}
 
 -- ---- what is left, and the padding
 

@@ -5,7 +5,7 @@ use mathlib.Core.List.{List, [], _∷_}
 use Prim.Native.Nat.{ℕ, zero, suc, _+_, _-_, _^_, _≤_, _<_}
 use native.Mathlib.Omega.{arith}
 use lib.ListN.{length}
-use lib.Dec.{T, leb, ltb, eqb, leb→le, le→leb, ltb→lt, lt→ltb, nltb→le, eqb→eq, eqb-refl, eqb·suc-suc, lit≤}
+use lib.Dec.{T, leb, ltb, eqb, leb→le, ltb→lt, lt→ltb, nltb→le, eqb→eq, eqb-refl, eqb·suc-suc, lit≤}
 use lib.Arith.{le→nltb}
 use lib.Pow.{pow-pos}
 use Rattle.openjoc_bitio.specs.Choice.{if_then_else_}
@@ -14,9 +14,9 @@ use Rattle.emdf_format.specs.declared.Optional.{Optional}
 use Rattle.emdf_format.specs.declared.Optional.the-variants.{Absent, Present}
 use Rattle.emdf_format.specs.Syntax.{_⨟_, variableField, capacity, escape, extendedField, octetBits, flaggedField, presentField}
 use Rattle.emdf_format.specs.Contents.{_&_, iff, isPresent, whenPresent, allBytes}
-use Rattle.emdf_format.specs.Reader.{Read, got, refused, Reader, _>>=_, give, ask, choose, bits, variableBits, extendedValue, octets, present, flagged}
+use Rattle.emdf_format.specs.Reader.{got, Reader, bits, variableBits, extendedValue, octets, present, flagged}
 use Rattle.emdf_format.proofs.Standing.{Stands, nil, cons, join, part, Codec, bits-law, bind-inv, bind-go, ask-inv, ask-go, choose-inv, choose-this, choose-that, step, asked, chosen, give-inv, give-go, bit-zero, bit-one, if-yes, if-no, T-of, T-not-of, neqb→ne, ne→neqb, both, and}
-use Rattle.emdf_format.proofs.Variable.{Field, field-sound, field-exact}
+use Rattle.emdf_format.proofs.Variable.{field-sound, field-exact}
 
 -- ---- bounds
 

@@ -12,8 +12,8 @@ use Rattle.openjoc_bitio.proofs.Bits.{length-number}
 use Rattle.emdf_format.specs.declared.Optional.{Optional}
 use Rattle.emdf_format.specs.declared.Optional.the-variants.{Absent, Present}
 use Rattle.emdf_format.specs.declared.EmdfPayloadConfig.{EmdfPayloadConfig}
-use Rattle.emdf_format.specs.Syntax.{_⨟_, variableField, groups, escape, extendedField, octetBits, flaggedField, presentField}
-use Rattle.emdf_format.specs.Contents.{Payload, Contents, codecDataBits, sampleOffsetBits, configBits, payloadBits, payloadsBits, protectionCode, protectionBits, containerBits, extensionBits, flaggedBits, presentBits, neededConfig, neededPayload, neededPayloads, neededBits}
+use Rattle.emdf_format.specs.Syntax.{variableField, groups, escape, extendedField, flaggedField, presentField}
+use Rattle.emdf_format.specs.Contents.{Payload, Contents, codecDataBits, sampleOffsetBits, configBits, payloadBits, payloadsBits, protectionBits, containerBits, extensionBits, flaggedBits, presentBits, neededConfig, neededPayload, neededPayloads, neededBits}
 use Rattle.emdf_format.proofs.Standing.{length-then}
 use Rattle.emdf_format.proofs.Variable.{length-field}
 use Rattle.emdf_format.proofs.Payloads.{length-octets}

@@ -1,22 +1,21 @@
 -- The equality of carriers over whole lists of edits, as a law of the definitions. Assumes nothing.
 use mathlib.Core.Path.{_≡_, refl, sym, ap, _∙_}
-use mathlib.Core.Bool.{Bool, true, false, not}
+use mathlib.Core.Bool.{Bool, true, false}
 use mathlib.Core.List.{List, [], _∷_, _++_, append-nil}
 use mathlib.Core.Logic.{_↔_}
-use Prim.Native.Nat.{ℕ, zero, suc, _+_, _≤_, _<_}
+use Prim.Native.Nat.{ℕ, zero, suc, _+_, _≤_}
 use native.Mathlib.Omega.{arith}
-use lib.ListN.{length, getD, take, drop}
+use lib.ListN.{length, take, drop}
 use lib.Seq.{take-at, take-length}
 use lib.Dec.{T, leb, ltb, eqb, leb→le, le→leb, lt→ltb, eqb-refl}
 use Rattle.openjoc_bitio.specs.Choice.{if_then_else_}
-use Rattle.emdf_format.specs.declared.EditError.{EditError}
-use Rattle.emdf_format.specs.declared.EditError.the-variants.{TrailingData, NoSuchPlace, NotWritable, TooLong, DestinationTooShort}
+use Rattle.emdf_format.specs.declared.EditError.the-variants.{NoSuchPlace, NotWritable, TooLong, DestinationTooShort}
 use Rattle.emdf_format.specs.declared.EmdfPayloadConfig.{EmdfPayloadConfig}
-use Rattle.emdf_format.specs.Contents.{_&_, Payload, Contents, writable, declared, carrier, allBytes, bodiesAreBytes, contentsAreBytes}
-use Rattle.emdf_format.specs.Reading.{Found, Container, Reading, accepted, reading, payloadsOf, contentsOf}
-use Rattle.emdf_format.specs.Calls.{recorded, inTable}
-use Rattle.emdf_format.specs.Edits.{Edit, bodyEdit, settingsEdit, dropEdit, insertEdit, keyEdit, protectionEdit, withBody, withConfig, withPayloads, change, placeExists, Stepped, changed, unchanged, carrierLength, inRoom, weighed, step, stepAnswer, stepContents, written, stepFrom, edited, Edited, Task, nextSource, leaves, answers, plainContents, plainAnswers, Bytes, EditBytes, TaskBytes, ReadsAs, Follows, EqualityOfCarriers}
-use Rattle.emdf_format.proofs.Standing.{T-of, is-true, if-yes, both, fits, and}
+use Rattle.emdf_format.specs.Contents.{Payload, Contents, writable, declared, carrier, allBytes, bodiesAreBytes, contentsAreBytes}
+use Rattle.emdf_format.specs.Reading.{Container, accepted, reading, contentsOf}
+use Rattle.emdf_format.specs.Calls.{inTable}
+use Rattle.emdf_format.specs.Edits.{Edit, bodyEdit, settingsEdit, dropEdit, insertEdit, keyEdit, protectionEdit, withBody, withConfig, withPayloads, change, placeExists, Stepped, changed, unchanged, carrierLength, inRoom, weighed, step, stepAnswer, stepContents, written, stepFrom, edited, Task, nextSource, leaves, answers, plainContents, plainAnswers, Bytes, EditBytes, TaskBytes, ReadsAs, EqualityOfCarriers}
+use Rattle.emdf_format.proofs.Standing.{T-of, if-yes, both, and}
 use Rattle.emdf_format.proofs.Payloads.{allFoundFrom}
 use Rattle.emdf_format.proofs.Container.{containerFrom}
 use Rattle.emdf_format.proofs.Bytes.{length-carrier}
@@ -184,8 +183,7 @@ pub equality-of-carriers : EqualityOfCarriers
 equality-of-carriers = record {
   claim = λ s₁ s₂ k₁ k₂ ts₁ ts₂ b₁ b₂ e₁ e₂ h₁ h₂.
       let f₁ = follow s₁ (contentsOf k₁) ts₁ e₁ (carried s₁ k₁ b₁ h₁) in
-      let f₂ = follow s₂ (contentsOf k₂) ts₂ e₂ (carried s₂ k₂ b₂ h₂) in
-      (
+      let f₂ = follow s₂ (contentsOf k₂) ts₂ e₂ (carried s₂ k₂ b₂ h₂) in (
         carries-same (f₁ .left) (f₂ .left),
         record { answered = f₁ .answered; reads = reads-as (f₁ .left) },
         record { answered = f₂ .answered; reads = reads-as (f₂ .left) },

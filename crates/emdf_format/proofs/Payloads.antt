@@ -1,6 +1,6 @@
 -- Payloads: what is read is what is written, and stands at the recorded spans. Assumes nothing.
-use mathlib.Core.Path.{_≡_, refl, sym, ap, _∙_}
-use mathlib.Core.Bool.{Bool, true, false, not}
+use mathlib.Core.Path.{_≡_, refl, sym, ap}
+use mathlib.Core.Bool.{Bool, true, false}
 use mathlib.Core.List.{List, [], _∷_}
 use Prim.Native.Nat.{ℕ, zero, suc, _+_, _-_, _*_, _^_, _≤_, _<_}
 use native.Mathlib.Omega.{arith}
@@ -12,9 +12,9 @@ use Rattle.openjoc_bitio.specs.Bits.{numberBits}
 use Rattle.openjoc_bitio.proofs.Bits.{length-number}
 use Rattle.emdf_format.specs.Syntax.{_⨟_, variableField, capacity, escape, extendedField, octetBits}
 use Rattle.emdf_format.specs.Contents.{_&_, Payload, configBits, payloadBits, payloadsBits, writableConfig, writablePayload, writablePayloads, allBytes, bodiesAreBytes}
-use Rattle.emdf_format.specs.Reader.{got, Reader, _>>=_, give, ask, choose, position, variableBits, extendedValue, octets}
-use Rattle.emdf_format.specs.Reading.{Found, traceOf, payloadConfig, payloadAfter, payloads, payloadOf, payloadsOf}
-use Rattle.emdf_format.proofs.Standing.{Stands, nil, join, part, Codec, bitLimit, bind-inv, bind-go, ask-inv, ask-go, choose-inv, choose-this, choose-that, step, asked, chosen, taken, give-inv, give-go, T-of, neqb→ne, ne→neqb, both, fits, and, length-then, stands-to, stands-in, same-what, same-to}
+use Rattle.emdf_format.specs.Reader.{got, position, variableBits, extendedValue}
+use Rattle.emdf_format.specs.Reading.{Found, traceOf, payloadAfter, payloads, payloadOf, payloadsOf}
+use Rattle.emdf_format.proofs.Standing.{Stands, join, part, Codec, bitLimit, bind-inv, bind-go, ask-inv, choose-inv, choose-this, choose-that, step, asked, chosen, taken, give-inv, give-go, T-of, neqb→ne, ne→neqb, both, fits, and, length-then, stands-to, stands-in, same-what, same-to}
 use Rattle.emdf_format.proofs.Fields.{fitsVariable, fitsExtended, sized, refit, variable, extended, octets-law}
 use Rattle.emdf_format.proofs.Config.{config-law}
 
@@ -265,12 +265,12 @@ after-exact {s} {e} {p₁} {q} p x l k f g h =
     let e₄ = stands-to s₄ in
     let o : T (eqb (length (x .body)) (length (x .body)) & allBytes (x .body)) = and _ _ (eqb-refl (length (x .body))) g in (
       bind-go _ _ (at-go s e p₁)
-      (bind-go _ _ (config-law .exact f s₂)
-      (bind-go _ _ (at-go s e p₂)
-      (bind-go _ _ (size-law .exact (size-fit (x .body) l s₄) s₃)
-      (bind-go _ _ (at-go s e p₃)
-      (bind-go _ _ (octets-law (length (x .body)) .exact o s₄)
-      (bind-go _ _ (at-go s e q) (give-go s e (rw (k, e₂, e₃, e₄)) refl))))))),
+          (bind-go _ _ (config-law .exact f s₂)
+          (bind-go _ _ (at-go s e p₂)
+          (bind-go _ _ (size-law .exact (size-fit (x .body) l s₄) s₃)
+          (bind-go _ _ (at-go s e p₃)
+          (bind-go _ _ (octets-law (length (x .body)) .exact o s₄)
+          (bind-go _ _ (at-go s e q) (give-go s e (rw (k, e₂, e₃, e₄)) refl))))))),
       rw (k, e₂, e₃) e₄,
     )
 

@@ -1,21 +1,17 @@
 -- Spans: they adjoin, follow one another, lie in the carrier, hold the bodies, and all bits are counted. Assumes nothing.
 use mathlib.Core.Path.{_≡_, refl, sym, ap, _∙_}
-use mathlib.Core.Bool.{Bool, true, false}
 use mathlib.Core.List.{List, [], _∷_}
-use Prim.Native.Nat.{ℕ, zero, suc, _+_, _-_, _*_, _^_, _≤_, _<_}
+use Prim.Native.Nat.{ℕ, zero, suc, _+_, _-_, _*_, _≤_}
 use native.Mathlib.Omega.{arith}
-use native.Mathlib.Nat.{le-refl}
 use lib.ListN.{length, take}
 use lib.Dec.{T, ltb, ltb→lt}
-use Rattle.openjoc_bitio.specs.Bits.{bitsValue, numberBits}
 use Rattle.openjoc_bitio.proofs.Bits.{length-number, value-take}
-use Rattle.emdf_format.specs.Syntax.{_⨟_, extendedField, octetBits}
-use Rattle.emdf_format.specs.Contents.{_&_, Payload, allBytes, bodiesAreBytes, contentsAreBytes, protectionCode, protectionBits}
-use Rattle.emdf_format.specs.Reading.{Found, Container, traceOf, Reading, accepted, reading, payloadsOf, contentsOf}
+use Rattle.emdf_format.specs.Syntax.{extendedField, octetBits}
+use Rattle.emdf_format.specs.Contents.{allBytes, bodiesAreBytes, contentsAreBytes, protectionBits}
+use Rattle.emdf_format.specs.Reading.{Found, Container, accepted, reading, payloadsOf}
 use Rattle.emdf_format.specs.Calls.{bodyStart, octetsAt, BodiesAtSpans}
 use Rattle.emdf_format.proofs.Standing.{Stands, part, bitLimit, number-read, both, length-then, stands-to, stands-in, stands-within}
 use Rattle.emdf_format.proofs.Payloads.{Spans, Traced, none, more, field-long, length-octets}
-use Rattle.emdf_format.proofs.Container.{Contained}
 use Rattle.emdf_format.proofs.Carrier.{read-contained, read-limit}
 
 -- ---- where the parts of a payload start

@@ -1,22 +1,21 @@
 -- Bits that stand in bytes, and what each reader is proved by: it finds exactly what a writer writes. Assumes nothing.
-use mathlib.Core.Path.{_≡_, refl, sym, ap, _∙_, subst}
+use mathlib.Core.Path.{_≡_, refl, ap, _∙_, subst}
 use mathlib.Core.Bool.{Bool, true, false, not}
-use mathlib.Core.List.{List, [], _∷_, _++_}
+use mathlib.Core.List.{List, [], _∷_}
 use Prim.Native.Nat.{ℕ, zero, suc, _+_, _-_, _*_, _/_, _%_, _^_, _≤_, _<_}
 use native.Mathlib.Omega.{arith}
 use native.Mathlib.Nat.{mod-lt, div-lt-iff-lt-mul, add-zero, add-suc, suc-add}
 use lib.ListN.{length, length-append}
-use lib.Dec.{T, leb, ltb, eqb, leb→le, le→leb, nleb→lt, ltb→lt, lt→ltb, T-not, not-T, eqb-refl, eqb→eq}
-use lib.Pow.{high, low, pow-pos}
+use lib.Dec.{T, leb, ltb, eqb, leb→le, ltb→lt, lt→ltb, T-not, not-T, eqb-refl, eqb→eq}
+use lib.Pow.{high, pow-pos}
 use lib.Pow.{split as pow-split}
-use borrow.Author.Tests.{le-leb, lt-leb}
+use borrow.Author.Tests.{le-leb}
 use Rattle.openjoc_bitio.specs.Choice.{if_then_else_}
 use Rattle.openjoc_bitio.specs.Bits.{bitAt, bitsValue, numberBits}
 use Rattle.openjoc_bitio.specs.Cursor.{bitLength, bitsRemaining, readBits}
 use Rattle.openjoc_bitio.specs.declared.BitError.the-variants.{InvalidWidth, EndOfInput}
-use Rattle.openjoc_bitio.specs.declared.BitsAnswer.{BitsAnswer}
 use Rattle.openjoc_bitio.specs.declared.BitsAnswer.the-variants.{Value, Refused}
-use Rattle.openjoc_bitio.proofs.Bits.{bit-range, value-none, value-first, value-range, length-number, number-high, number-low}
+use Rattle.openjoc_bitio.proofs.Bits.{bit-range, value-none, value-first, value-range, number-high, number-low}
 use Rattle.emdf_format.specs.declared.EmdfError.{EmdfError}
 use Rattle.emdf_format.specs.Syntax.{_⨟_}
 use Rattle.emdf_format.specs.Contents.{_&_}

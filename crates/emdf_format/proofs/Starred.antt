@@ -1,21 +1,25 @@
 -- The starred carriers of document 01, on the definitions, as one statement. Assumes nothing.
 use mathlib.Core.Path.{_≡_, refl}
-use mathlib.Core.Bool.{Bool, true, false}
+use mathlib.Core.Bool.{true, false}
 use mathlib.Core.List.{List, [], _∷_, _++_}
-use Prim.Native.Nat.{ℕ}
+use Prim.Native.Nat.{ℕ, _^_}
 use lib.ListN.{length}
 use Rattle.openjoc_bitio.specs.Bits.{bitAt, bitsValue, numberBits}
 use Rattle.openjoc_bitio.specs.Cursor.{bitLength, bitsRemaining, readBits}
-use Rattle.emdf_format.specs.declared.Optional.the-variants.{Absent}
-use Rattle.emdf_format.specs.declared.EmdfError.the-variants.{TruncatedContainer, ExcessPadding}
+use Rattle.openjoc_bitio.specs.declared.BitError.the-variants.{EndOfInput}
+use Rattle.emdf_format.specs.declared.Optional.{Optional}
+use Rattle.emdf_format.specs.declared.Optional.the-variants.{Absent, Present}
+use Rattle.emdf_format.specs.declared.EmdfError.the-variants.{TruncatedContainer, Bit, ExcessPadding}
 use Rattle.emdf_format.specs.declared.EmdfPayloadConfig.{EmdfPayloadConfig}
+use Rattle.emdf_format.specs.declared.JocValidationProfile.the-variants.{EtsiStrict, ObservedVendorCompat}
 use Rattle.emdf_format.specs.declared.EditError.the-variants.{DestinationTooShort}
 use Rattle.emdf_format.specs.declared.EditAnswer.the-variants.{Written, Refused}
 use Rattle.emdf_format.specs.Syntax.{_⨟_, groupsBefore, variableField, countBefore, groups, escape, extendedField, octetBits, flaggedField, presentField}
-use Rattle.emdf_format.specs.Contents.{Payload, Contents, _&_, iff, isPresent, isOne, whenPresent, upTo, hasAligned, hasPriority, ruled, writableConfig, writablePayload, writablePayloads, protectionLength, protectionCode, codable, writable, extensionBits, flaggedBits, presentBits, neededConfig, neededPayload, neededPayloads, neededBits, declared, sampleOffsetBits, codecDataBits, configBits, payloadBits, payloadsBits, protectionBits, containerBits, carrierBits, bitsNumber, bytesOf, carrier}
+use Rattle.emdf_format.specs.Contents.{_&_, iff, isPresent, isOne, whenPresent, upTo, hasAligned, hasPriority, ruled, writableConfig, writablePayload, writablePayloads, protectionLength, protectionCode, codable, writable, extensionBits, flaggedBits, presentBits, neededConfig, neededPayload, neededPayloads, neededBits, declared, sampleOffsetBits, codecDataBits, configBits, payloadBits, payloadsBits, protectionBits, containerBits, carrierBits, bitsNumber, bytesOf, carrier}
 use Rattle.emdf_format.specs.Reader.{andThen, _>>=_, give, ask, choose, position, remaining, fromBits, bits, groupsFrom, variableBits, extendedValue, octets, present, flagged}
-use Rattle.emdf_format.specs.Reading.{reserved, sampleOffset, codecData, payloadConfig, Found, traceOf, payloadAfter, payloads, Container, padding, container, Reading, accepted, refusal, consumed, reading, payloadsOf, contentsOf}
-use Rattle.emdf_format.specs.Calls.{number, figures, Class, nonEmdf, trailingData, classOf, classify}
+use Rattle.emdf_format.specs.Reading.{reserved, sampleOffset, codecData, payloadConfig, Found, traceOf, payloadAfter, payloads, Container, padding, container, accepted, refusal, consumed, reading, payloadsOf, contentsOf}
+use Rattle.emdf_format.specs.Calls.{number, figures, nonEmdf, trailingData, classOf, classify}
+use Rattle.emdf_format.specs.Profile.{meets, onOamd, table56, deviates, differ, marks, deviations, word, ones, passes, allPass, meetsProfile}
 use Rattle.emdf_format.specs.Edits.{bodyEdit, dropEdit, withBody, withPayloads, change, placeExists, inRoom, weighed, step, stepAnswer, written, stepFrom, edited}
 
 abbrev A : List ℕ
@@ -111,4 +115,68 @@ starred = record {
   id-31 = refl;
   size-255 = refl;
   size-256 = refl;
+}
+
+-- ---- mistakes at hand, as examples that tell them from what is right
+
+-- settings that meet table 56, but for the group id
+abbrev joined : Optional → EmdfPayloadConfig
+joined group = record {
+  «sample_offset» = Absent;
+  duration = Absent;
+  «group_id» = group;
+  «codec_data_present» = 1;
+  «discard_unknown_payload» = 0;
+  «payload_frame_aligned» = Present 1;
+  «create_duplicate» = Present 0;
+  «remove_duplicate» = Present 0;
+  priority = Present 0;
+  «processing_allowed» = Present 0;
+}
+
+-- settings that compat lets pass on OAMD alone
+abbrev unaligned : EmdfPayloadConfig
+unaligned = record {
+  «sample_offset» = Absent;
+  duration = Absent;
+  «group_id» = Present 5;
+  «codec_data_present» = 0;
+  «discard_unknown_payload» = 0;
+  «payload_frame_aligned» = Present 0;
+  «create_duplicate» = Absent;
+  «remove_duplicate» = Absent;
+  priority = Absent;
+  «processing_allowed» = Absent;
+}
+
+pub record Mistakes : Type 0 where
+  -- padding is counted before it is looked at: ten bits, not all zero
+  pub padding-length-first : reading (0x58 ∷ 0x38 ∷ 0x00 ∷ 0x04 ∷ 0x00 ∷ 0x12 ∷ 0x94 ∷ 0xff ∷ []) ≡ refusal (ExcessPadding 10)
+  -- both codes are read before a primary code of 0 is refused: here the second is missing
+  pub both-codes-first : reading (0x58 ∷ 0x38 ∷ 0x00 ∷ 0x02 ∷ 0x38 ∷ 0x00 ∷ []) ≡ refusal (Bit (EndOfInput 2 0))
+  -- an escape adds to its base: key id 7 is 111 000 0
+  pub escape-with-base : reading (0x58 ∷ 0x38 ∷ 0x00 ∷ 0x04 ∷ 0x38 ∷ 0x01 ∷ 0x29 ∷ 0x40 ∷ []) ≡ accepted 8 (record { key-id = 7; found = []; primary = 0xa5 ∷ []; secondary = [] })
+  -- two absent group ids don't differ; one beside a present one is missed, and differs
+  pub both-absent : ones (deviations (joined Absent) (joined Absent)) ≡ 2
+  pub joc-absent : ones (deviations (joined (Present 5)) (joined Absent)) ≡ 2
+  pub unequal : word (deviations (joined (Present 5)) (joined (Present 6))) ≡ 2 ^ 20
+  pub equal : ones (deviations (joined (Present 5)) (joined (Present 5))) ≡ 0
+  -- compat goes by values, and by the payload
+  pub oamd-unaligned : meetsProfile ObservedVendorCompat unaligned (joined (Present 5)) ≡ true
+  pub joc-unaligned : meetsProfile ObservedVendorCompat (joined (Present 5)) unaligned ≡ false
+  pub not-strict : meetsProfile EtsiStrict unaligned (joined (Present 5)) ≡ false
+
+pub mistakes : Mistakes
+unfolding bitAt bitsValue numberBits bitLength bitsRemaining readBits _⨟_ groupsBefore variableField countBefore groups escape extendedField octetBits flaggedField presentField _&_ iff isPresent isOne whenPresent upTo hasAligned hasPriority ruled writableConfig writablePayload writablePayloads protectionLength protectionCode codable writable extensionBits flaggedBits presentBits neededConfig neededPayload neededPayloads neededBits declared sampleOffsetBits codecDataBits configBits payloadBits payloadsBits protectionBits containerBits carrierBits bitsNumber bytesOf carrier andThen _>>=_ give ask choose position remaining fromBits bits groupsFrom variableBits extendedValue octets present flagged reserved sampleOffset codecData payloadConfig payloadAfter payloads padding container consumed reading payloadsOf differ meets marks deviates table56 deviations word ones onOamd passes allPass meetsProfile
+mistakes = record {
+  padding-length-first = refl;
+  both-codes-first = refl;
+  escape-with-base = refl;
+  both-absent = refl;
+  joc-absent = refl;
+  unequal = refl;
+  equal = refl;
+  oamd-unaligned = refl;
+  joc-unaligned = refl;
+  not-strict = refl;
 }

@@ -1,20 +1,19 @@
 -- The variable field: what is read is what is written, and the number of groups is the least that holds the value. Assumes nothing.
 use mathlib.Core.Path.{_≡_, refl, sym, ap, _∙_}
-use mathlib.Core.Bool.{Bool, true, false, not}
 use mathlib.Core.List.{List, [], _∷_}
 use Prim.Native.Nat.{ℕ, zero, suc, _+_, _-_, _*_, _/_, _%_, _^_, _≤_, _<_}
 use native.Mathlib.Omega.{arith}
 use native.Mathlib.Nat.{add-zero, add-suc, suc-add, zero-add, zero-mul, one-mul, le-refl, suc-mul, mod-lt, mul-le-mul-left, mul-le-mul-right, div-lt-iff-lt-mul}
 use lib.ListN.{length}
-use lib.Dec.{T, leb, ltb, eqb, leb→le, ltb→lt, lt→ltb, eqb→eq, lit≤}
+use lib.Dec.{T, leb, ltb, leb→le, ltb→lt, lt→ltb, lit≤}
 use lib.Pow.{high, low, pow-pos, pow-add, shr-le}
 use lib.Pow.{split as pow-split}
 use Rattle.openjoc_bitio.specs.Bits.{numberBits}
 use Rattle.openjoc_bitio.proofs.Bits.{length-number}
 use Rattle.emdf_format.specs.Syntax.{_⨟_, groupsBefore, variableField, capacity, countBefore, groups}
 use Rattle.emdf_format.specs.Contents.{_&_}
-use Rattle.emdf_format.specs.Reader.{Read, got, refused, Reader, _>>=_, give, ask, choose, bits, groupsFrom, variableBits}
-use Rattle.emdf_format.proofs.Standing.{Stands, nil, cons, join, parted, Codec, bits-law, bind-inv, bind-go, ask-inv, ask-go, choose-inv, choose-this, choose-that, step, asked, chosen, give-inv, bit-zero, bit-one, neqb→ne, both, length-then}
+use Rattle.emdf_format.specs.Reader.{got, give, bits, groupsFrom, variableBits}
+use Rattle.emdf_format.proofs.Standing.{Stands, nil, join, parted, bits-law, bind-inv, bind-go, ask-inv, ask-go, choose-inv, choose-this, choose-that, step, asked, chosen, give-inv, bit-zero, bit-one, neqb→ne, both, length-then}
 
 before-zero : (f w : ℕ) → groupsBefore f w zero ≡ []
 unfolding groupsBefore

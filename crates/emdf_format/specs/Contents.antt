@@ -1,11 +1,11 @@
 -- Contents of a container: which are writable, how many bits they need, and the carrier that they are written as. Assumes nothing.
 use mathlib.Core.Bool.{Bool, true, false, not, _||_}
-use mathlib.Core.List.{List, [], _∷_, _++_}
-use Prim.Native.Nat.{ℕ, zero, suc, _+_, _-_, _*_, _/_, _%_, _^_}
+use mathlib.Core.List.{List, [], _∷_}
+use Prim.Native.Nat.{ℕ, zero, suc, _+_, _-_, _*_, _/_, _^_}
 use lib.ListN.{length, take, drop}
 use lib.Dec.{leb, ltb, eqb}
 use Rattle.openjoc_bitio.specs.Choice.{if_then_else_}
-use Rattle.openjoc_bitio.specs.Bits.{bitsValue, numberBits}
+use Rattle.openjoc_bitio.specs.Bits.{numberBits}
 use Rattle.emdf_format.specs.declared.Optional.{Optional}
 use Rattle.emdf_format.specs.declared.Optional.the-variants.{Absent, Present}
 use Rattle.emdf_format.specs.declared.EmdfPayloadConfig.{EmdfPayloadConfig}
@@ -27,7 +27,6 @@ pub record Contents : Type 0 where
 -- ---- tests
 
 infixr 35 _&_
-
 unfoldable pub _&_ : Bool → Bool → Bool
 true & b = b
 false & b = false

@@ -2,9 +2,8 @@
 use mathlib.Core.Bool.{Bool, true, false, not, _||_}
 use mathlib.Core.List.{List, [], _∷_, _++_}
 use mathlib.Core.Option.{Option, none, some}
-use Prim.Native.Nat.{ℕ, zero, suc, _+_, _*_}
-use lib.ListN.{length}
-use lib.Dec.{leb, eqb}
+use Prim.Native.Nat.{ℕ, suc, _+_, _*_}
+use lib.Dec.{eqb}
 use Rattle.openjoc_bitio.specs.Choice.{if_then_else_}
 use Rattle.emdf_format.specs.declared.Optional.{Optional}
 use Rattle.emdf_format.specs.declared.Optional.the-variants.{Absent, Present}
@@ -19,7 +18,7 @@ use Rattle.emdf_format.specs.declared.JocProfileError.the-variants.{Emdf
 use Rattle.emdf_format.specs.declared.JocProfileAnswer.{JocProfileAnswer}
 use Rattle.emdf_format.specs.declared.JocProfileAnswer.the-variants.{Accepted, Refused}
 use Rattle.emdf_format.specs.Contents.{_&_, isPresent}
-use Rattle.emdf_format.specs.Reading.{Found, Container, Reading, accepted, refusal, reading}
+use Rattle.emdf_format.specs.Reading.{Found, Reading, accepted, refusal, reading}
 
 -- ---- table 56
 

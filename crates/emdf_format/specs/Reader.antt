@@ -2,7 +2,7 @@
 -- each question in its place. Assumes nothing.
 use mathlib.Core.Bool.{Bool, true, false}
 use mathlib.Core.List.{List, [], _∷_}
-use Prim.Native.Nat.{ℕ, zero, suc, _+_, _-_, _*_, _^_}
+use Prim.Native.Nat.{ℕ, zero, suc, _+_, _*_, _^_}
 use lib.Dec.{leb, ltb, eqb}
 use Rattle.openjoc_bitio.specs.Cursor.{bitsRemaining, readBits}
 use Rattle.openjoc_bitio.specs.declared.BitCursor.{BitCursor}
@@ -16,7 +16,6 @@ use Rattle.emdf_format.specs.Syntax.{escape}
 use Rattle.emdf_format.specs.Contents.{_&_}
 
 infixl 20 _>>=_
-
 -- what was found and the position past it; or a refusal, and the position after the last bit that was read
 pub data Read (A : Type 0) : Type 0 where
   got : A → ℕ → Read A

@@ -1,5 +1,5 @@
 -- The reading of a carrier: Annex H's tables in order, with document 01's questions 1 to 12 each in its place. Assumes nothing.
-use mathlib.Core.Bool.{Bool, true, false, not}
+use mathlib.Core.Bool.{false, not}
 use mathlib.Core.List.{List, [], _∷_}
 use Prim.Native.Nat.{ℕ, zero, suc, _+_, _-_, _*_}
 use lib.ListN.{length, take}
@@ -7,14 +7,13 @@ use lib.Dec.{leb, ltb, eqb}
 use Rattle.openjoc_bitio.specs.Choice.{if_then_else_}
 use Rattle.openjoc_bitio.specs.Bits.{bitsValue}
 use Rattle.openjoc_bitio.specs.declared.BitError.the-variants.{EndOfInput}
-use Rattle.openjoc_bitio.specs.declared.BitOffset.{BitOffset}
 use Rattle.emdf_format.specs.declared.EmdfError.{EmdfError}
 use Rattle.emdf_format.specs.declared.EmdfError.the-variants.{TruncatedContainer, InvalidSyncword, Bit, UnsupportedVersion, NonzeroReservedData, ReservedPrimaryProtectionLength, ExcessPadding, NonzeroPadding}
 use Rattle.emdf_format.specs.declared.EmdfPayloadConfig.{EmdfPayloadConfig}
 use Rattle.emdf_format.specs.declared.EmdfPayloadBitTrace.{EmdfPayloadBitTrace}
 use Rattle.emdf_format.specs.declared.PayloadRecord.{PayloadRecord}
 use Rattle.emdf_format.specs.Contents.{Payload, Contents, hasAligned, isOne, hasPriority, protectionLength}
-use Rattle.emdf_format.specs.Reader.{Read, got, refused, Reader, _>>=_, give, ask, choose, position, remaining, bits, variableBits, extendedValue, octets, present, flagged}
+use Rattle.emdf_format.specs.Reader.{Read, got, refused, Reader, give, ask, choose, position, remaining, bits, variableBits, extendedValue, octets, present, flagged}
 
 -- ---- settings: emdf_payload_config(), table H.2.4
 

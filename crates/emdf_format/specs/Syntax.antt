@@ -1,5 +1,4 @@
 -- The fields of Annex H in the direction of writing, as bits: what a value looks like in a container. Assumes nothing.
-use mathlib.Core.Bool.{Bool, true, false}
 use mathlib.Core.List.{List, [], _∷_, _++_}
 use Prim.Native.Nat.{ℕ, zero, suc, _+_, _-_, _*_, _/_, _%_, _^_}
 use lib.Dec.{ltb}
@@ -9,7 +8,6 @@ use Rattle.emdf_format.specs.declared.Optional.{Optional}
 use Rattle.emdf_format.specs.declared.Optional.the-variants.{Absent, Present}
 
 infixr 65 _⨟_
-
 -- some bits and then others
 unfoldable pub _⨟_ : List ℕ → List ℕ → List ℕ
 xs ⨟ ys = xs ++ ys

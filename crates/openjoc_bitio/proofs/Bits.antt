@@ -1,6 +1,6 @@
 -- Laws of bits and of the numbers that they make, for every crate that reads or writes them. Assumes nothing.
 use mathlib.Core.Path.{_≡_, refl, sym, ap, _∙_}
-use mathlib.Core.List.{List, _∷_, _++_}
+use mathlib.Core.List.{List, _++_}
 use Prim.Native.Nat.{ℕ, zero, suc, _+_, _-_, _*_, _/_, _%_, _^_, _<_, _≤_}
 use native.Mathlib.Nat.{pow-suc, add-zero, add-suc, add-assoc, mul-assoc, mul-comm, mul-one, mod-one, mul-add-div-right}
 use native.Mathlib.Numerals.{add-one}

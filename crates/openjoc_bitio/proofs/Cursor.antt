@@ -2,10 +2,10 @@
 use mathlib.Core.Path.{_≡_, refl}
 use mathlib.Core.List.{List}
 use mathlib.Core.Bool.{Bool, true, false}
-use Prim.Native.Nat.{ℕ, _+_, _-_, _*_, _^_, _<_, _≤_, zero-le}
+use Prim.Native.Nat.{ℕ, _-_, _*_, _^_, _<_, _≤_, zero-le}
 use native.Mathlib.Nat.{le-refl}
 use native.Mathlib.Omega.{arith}
-use lib.ListN.{length, take, length-take}
+use lib.ListN.{length}
 use lib.Dec.{leb, ltb}
 use borrow.Author.Tests.{leb-true, le-leb, lt-leb, lt-ltb}
 use Rattle.openjoc_bitio.specs.Choice.{if_then_else_}
@@ -14,7 +14,6 @@ use Rattle.openjoc_bitio.specs.Cursor.{bitLength, bitsRemaining, past, r
 use Rattle.openjoc_bitio.specs.declared.BitCursor.{BitCursor}
 use Rattle.openjoc_bitio.specs.declared.BitError.the-variants.{InvalidWidth, EndOfInput}
 use Rattle.openjoc_bitio.specs.declared.BitsAnswer.the-variants.{Value, Refused}
-use Rattle.openjoc_bitio.proofs.Bits.{value-split, value-take}
 
 under : {x y : ℕ} (b : Bool) → (b ≡ true → x ≤ y) → (if b then x else 0) ≤ y
 under true h = h refl

@@ -1,5 +1,4 @@
 use borrow.Author.Needs.{needs}
-use mathlib.Core.Path.{refl}
 use Rattle.openjoc_bitio.specs.Bits.{bitAt}
 use Rattle.openjoc_bitio.proofs.bit_at.Statement.{statement}
 use Rattle.openjoc_bitio.proofs.bit_at.Tie as tie

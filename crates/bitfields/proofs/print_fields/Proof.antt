@@ -1,0 +1,58 @@
+use borrow.Author.Needs.{needs}
+use native.Mathlib.Omega.{arith}
+use Prim.Native.Nat.{_-_}
+use Rattle.bitfields.proofs.print_fields.Statement.{statement}
+use Rattle.bitfields.proofs.print_fields.Tie as tie
+
+abbrev Inv-loop : tie.InvT-loop
+Inv-loop bytes args cursor₀ i₀ cursor i = Unit {0}
+
+abbrev μ-loop : tie.MeasureT-loop
+μ-loop bytes args cursor₀ i₀ cursor i = args - i
+
+new-requires : tie.Need-new-requires Inv-loop μ-loop
+new-requires c κs = tt
+
+loop-holds : tie.Need-loop-holds Inv-loop μ-loop
+loop-holds c = tt
+
+print-field-requires : tie.Need-print-field-requires Inv-loop μ-loop
+print-field-requires c κs = tt
+
+enum-known-step : tie.Need-enum-known-step Inv-loop μ-loop
+enum-known-step c = search needs
+
+enum-told : tie.Need-enum-told Inv-loop μ-loop
+enum-told c = search needs
+
+returns : tie.Need-returns Inv-loop μ-loop
+returns c = tt
+
+add-i : tie.Need-add-i Inv-loop μ-loop
+add-i c = omega arith
+
+loop-less : tie.Need-loop-less Inv-loop μ-loop
+loop-less c = omega arith
+
+loop-again : tie.Need-loop-again Inv-loop μ-loop
+loop-again c = tt
+
+returns-2 : tie.Need-returns-2 Inv-loop μ-loop
+returns-2 c = tt
+
+pub print-fields-spec : {M : Type 1} → statement M
+print-fields-spec =
+    tie.close
+    (tie.spec
+    Inv-loop
+    μ-loop
+    new-requires
+    loop-holds
+    print-field-requires
+    enum-known-step
+    enum-told
+    returns
+    add-i
+    loop-less
+    loop-again
+    returns-2)
