@@ -13,7 +13,7 @@ use Rattle.emdf_format.specs.declared.EmdfPayloadConfig.{EmdfPayloadConf
 use Rattle.emdf_format.specs.declared.EmdfPayloadBitTrace.{EmdfPayloadBitTrace}
 use Rattle.emdf_format.specs.declared.PayloadRecord.{PayloadRecord}
 use Rattle.emdf_format.specs.Contents.{Payload, Contents, hasAligned, isOne, hasPriority, protectionLength}
-use Rattle.emdf_format.specs.Reader.{Read, got, refused, Reader, give, ask, choose, position, remaining, bits, variableBits, extendedValue, octets, present, flagged}
+use Rattle.emdf_format.specs.Reader.{Read, got, refused, Reader, _>>=_, give, ask, choose, position, remaining, bits, variableBits, extendedValue, octets, present, flagged}
 
 -- ---- settings: emdf_payload_config(), table H.2.4
 
