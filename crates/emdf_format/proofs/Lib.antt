@@ -10,3 +10,4 @@ pub mod Carrier
 pub mod Spans
 pub mod Lists
 pub mod Starred
+pub mod Loops

@@ -47,7 +47,7 @@ word-law w l k =
     let h : w ≤ 64 = omega (arith, leb→le w 63 (both l .right)) in
     refit (extended w l) (λ v f. word-from w v h f) (λ v f. word-to w v k f)
 
-id-law : Codec (extendedValue 5) (extendedField 5) word
+pub id-law : Codec (extendedValue 5) (extendedField 5) word
 unfolding _&_ capacity
 id-law = word-law 5 tt (lit≤ tt)
 
@@ -55,7 +55,7 @@ pub key-law : Codec (extendedValue 3) (extendedField 3) word
 unfolding _&_ capacity
 key-law = word-law 3 tt (lit≤ tt)
 
-size-law : Codec (variableBits 8 2) (variableField 8) (fitsVariable 8 2)
+pub size-law : Codec (variableBits 8 2) (variableField 8) (fitsVariable 8 2)
 unfolding _&_
 size-law = variable 8 2 tt
 
@@ -119,11 +119,11 @@ pub record At (s : List ℕ) (e p a q : ℕ) : Type 0 where
   pub is : p ≡ a
   pub to : p ≡ q
 
-at-inv : {s : List ℕ} {e p a q : ℕ} → position s e p ≡ got a q → At s e p a q
+pub at-inv : {s : List ℕ} {e p a q : ℕ} → position s e p ≡ got a q → At s e p a q
 unfolding position
 at-inv h = record { is = same-what h; to = same-to h }
 
-at-go : (s : List ℕ) (e p : ℕ) → position s e p ≡ got p p
+pub at-go : (s : List ℕ) (e p : ℕ) → position s e p ≡ got p p
 unfolding position
 at-go s e p = refl
 

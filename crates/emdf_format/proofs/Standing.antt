@@ -168,6 +168,10 @@ pub bind-go : {A B : Type 0} (m : Reader A) (k : A → Reader B) {s : List ℕ} 
 unfolding _>>=_ andThen
 bind-go m k {s} {e} {p} {q} {a} f t = ap (λ y. andThen y (λ a q. k a s e q)) f ∙ t
 
+pub bind-no : {A B : Type 0} (m : Reader A) (k : A → Reader B) {s : List ℕ} {e p q : ℕ} {why : EmdfError} → m s e p ≡ refused why q → (m >>= k) s e p ≡ refused why q
+unfolding _>>=_ andThen
+bind-no m k {s} {e} f = ap (λ y. andThen y (λ a q. k a s e q)) f
+
 pub never : {X : Type 0} {A : Type 0} {why : EmdfError} {q r : ℕ} {a : A} → refused why q ≡ got a r → X
 never h = absurd (let z : _≡_ {A = ℕ} 0 1 = cc in omega arith)
 
@@ -176,6 +180,42 @@ same-what h = cc
 
 pub same-to : {A : Type 0} {a b : A} {p q : ℕ} → got a p ≡ got b q → p ≡ q
 same-to h = cc
+
+-- ---- readers that are equal
+
+pub bind-assoc : {A B C : Type 0} (m : Reader A) (k : A → Reader B) (f : B → Reader C) (s : List ℕ) (e p : ℕ)
+    → ((m >>= k) >>= f) s e p ≡ (m >>= λ a. k a >>= f) s e p
+unfolding _>>=_ andThen
+bind-assoc m k f s e p = go (m s e p)
+  where
+    go : (x : Read _) → andThen (andThen x (λ a q. k a s e q)) (λ b q. f b s e q) ≡ andThen x (λ a q. andThen (k a s e q) (λ b q. f b s e q))
+    go (got a q) = refl
+    go (refused why q) = refl
+
+pub bind-same : {A B : Type 0} (m : Reader A) (k k′ : A → Reader B) (s : List ℕ) (e p : ℕ)
+    → ((a : A) (q : ℕ) → k a s e q ≡ k′ a s e q) → (m >>= k) s e p ≡ (m >>= k′) s e p
+unfolding _>>=_ andThen
+bind-same m k k′ s e p h = go (m s e p)
+  where
+    go : (x : Read _) → andThen x (λ a q. k a s e q) ≡ andThen x (λ a q. k′ a s e q)
+    go (got a q) = h a q
+    go (refused why q) = refl
+
+pub choose-bind : {A B : Type 0} (t : Bool) (x y : Reader A) (f : A → Reader B) (s : List ℕ) (e p : ℕ)
+    → (choose t x y >>= f) s e p ≡ choose t (x >>= f) (y >>= f) s e p
+unfolding choose
+choose-bind true x y f s e p = refl
+choose-bind false x y f s e p = refl
+
+pub choose-same : {A : Type 0} (t : Bool) (x x′ y y′ : Reader A) (s : List ℕ) (e p : ℕ)
+    → x s e p ≡ x′ s e p → y s e p ≡ y′ s e p → choose t x y s e p ≡ choose t x′ y′ s e p
+unfolding choose
+choose-same true x x′ y y′ s e p h k = h
+choose-same false x x′ y y′ s e p h k = k
+
+pub give-bind : {A B : Type 0} (a : A) (f : A → Reader B) (s : List ℕ) (e p : ℕ) → (give a >>= f) s e p ≡ f a s e p
+unfolding _>>=_ andThen give
+give-bind a f s e p = refl
 
 -- What a reader finds is what the writer writes, and fits; and it finds whatever fits and is written there.
 pub record Codec {A : Type 0} (r : Reader A) (wr : A → List ℕ) (fit : A → Bool) : Type 0 where
@@ -210,6 +250,11 @@ pub ask-go : {B : Type 0} (t : Bool) (why : EmdfError) (k : Unit {0} → Reader 
 unfolding _>>=_ andThen ask
 ask-go true why k h f = f
 ask-go false why k h f = absurd h
+
+pub ask-refuses : {B : Type 0} (t : Bool) (why : EmdfError) (k : Unit {0} → Reader B) (s : List ℕ) (e p : ℕ) → T (not t) → (ask t why >>= k) s e p ≡ refused why p
+unfolding _>>=_ andThen ask
+ask-refuses true why k s e p h = absurd h
+ask-refuses false why k s e p h = refl
 
 -- a question at the end
 pub record Asked (t : Bool) (why : EmdfError) (s : List ℕ) (e p q : ℕ) : Type 0 where

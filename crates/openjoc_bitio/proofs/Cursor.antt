@@ -50,3 +50,13 @@ read-ended s c w h k = simp (le-leb w 64 h, lt-leb w (bitsRemaining s c) k)
 pub read-too-wide : (s : List ℕ) (c : BitCursor) (w : ℕ) → 64 < w → readBits s c w ≡ Refused (InvalidWidth w)
 unfolding readBits
 read-too-wide s c w h = simp (lt-leb w 64 h)
+
+-- a read that is accepted leaves the cursor past its bits
+pub read-past : (s : List ℕ) (c : BitCursor) (w : ℕ) {v : ℕ} {d : BitCursor} → readBits s c w ≡ Value v d → past c w ≡ d
+unfolding readBits
+read-past s c w {v} {d} h = go (leb w 64) (leb w (bitsRemaining s c)) h
+  where
+    go : (x y : Bool) → (if x then (if y then Value (bitsValue s (c .position) w) (past c w) else Refused (EndOfInput w (bitsRemaining s c))) else Refused (InvalidWidth w)) ≡ Value v d → past c w ≡ d
+    go true true f = cc
+    go true false f = absurd (let z : _≡_ {A = ℕ} 0 1 = cc in omega arith)
+    go false y f = absurd (let z : _≡_ {A = ℕ} 0 1 = cc in omega arith)

@@ -1,0 +1,53 @@
+-- The calls' answers, by what the definitions of emdf_format find: e is the end of the cursor that was handed in. Assumes nothing.
+use mathlib.Core.Bool.{Bool, true, false}
+use mathlib.Core.List.{List}
+use Prim.Native.Nat.{ℕ, _+_, _*_, _^_}
+use lib.Dec.{ltb, eqb}
+use Rattle.openjoc_bitio.specs.Choice.{if_then_else_}
+use Rattle.openjoc_bitio.specs.declared.BitCursor.{BitCursor}
+use Rattle.emdf_format.specs.Reader.{Read, got, refused, Reader, _>>=_, give, ask, choose, cursorAt, bits}
+use Rattle.emdf_format.specs.declared.EmdfError.{EmdfError}
+use Rattle.emdf_format.specs.declared.EmdfError.the-variants.{VariableBitsGroupLimit, ValueOverflow}
+use Rattle.openjoc_emdf.specs.declared.FieldAnswer.{FieldAnswer}
+use Rattle.openjoc_emdf.specs.declared.FieldAnswer.the-variants as FieldAnswer
+use Rattle.openjoc_emdf.specs.declared.GroupAnswer.{GroupAnswer}
+use Rattle.openjoc_emdf.specs.declared.GroupAnswer.the-variants as GroupAnswer
+use Rattle.openjoc_emdf.specs.declared.StartAnswer.{StartAnswer}
+use Rattle.openjoc_emdf.specs.declared.StartAnswer.the-variants as StartAnswer
+
+unfoldable pub fieldAnswer : ℕ → Read ℕ → FieldAnswer
+fieldAnswer e (got v q) = FieldAnswer.Value v (cursorAt e q)
+fieldAnswer e (refused why q) = FieldAnswer.Refused why (cursorAt e q)
+
+-- ---- one group of a variable field
+
+pub data Group : Type 0 where
+  last : ℕ → Group
+  more : ℕ → Group
+
+-- the body of emdf_format's groupsFrom, where n groups may follow
+unfoldable pub oneGroup : ℕ → ℕ → ℕ → ℕ → Reader Group
+oneGroup w limit n start = do
+  value ← bits w
+  _ ← ask (ltb (start + value) (2 ^ 64)) ValueOverflow
+  flag ← bits 1
+  choose (eqb flag 0) (give (last (start + value))) do
+    _ ← ask (ltb 0 n) (VariableBitsGroupLimit w limit)
+    _ ← ask (ltb ((start + value) * 2 ^ w + 2 ^ w) (2 ^ 64)) ValueOverflow
+    give (more ((start + value) * 2 ^ w + 2 ^ w))
+
+unfoldable pub groupFound : Group → ℕ → ℕ → GroupAnswer
+groupFound (last v) e q = GroupAnswer.Last v (cursorAt e q)
+groupFound (more v) e q = GroupAnswer.More v (cursorAt e q)
+
+unfoldable pub groupAnswer : ℕ → Read Group → GroupAnswer
+groupAnswer e (got g q) = groupFound g e q
+groupAnswer e (refused why q) = GroupAnswer.Refused why (cursorAt e q)
+
+-- only a refusal is handed to it
+unfoldable pub refusedGroup : FieldAnswer → GroupAnswer
+refusedGroup (FieldAnswer.Value v c) = GroupAnswer.Last v c
+refusedGroup (FieldAnswer.Refused why c) = GroupAnswer.Refused why c
+
+unfoldable pub startAnswer : ℕ → StartAnswer
+startAnswer v = if ltb v (2 ^ 64) then StartAnswer.Start v else StartAnswer.TooLarge
