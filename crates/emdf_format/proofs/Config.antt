@@ -11,7 +11,7 @@ use Rattle.emdf_format.specs.declared.EmdfPayloadConfig.{EmdfPayloadConf
 use Rattle.emdf_format.specs.Syntax.{_⨟_, variableField, capacity, flaggedField, presentField}
 use Rattle.emdf_format.specs.Contents.{_&_, whenPresent, upTo, hasAligned, isOne, hasPriority, ruled, writableConfig, codecDataBits, sampleOffsetBits, configBits}
 use Rattle.emdf_format.specs.Reader.{got, bits, variableBits, present, flagged}
-use Rattle.emdf_format.specs.Reading.{reserved, sampleOffset, codecData, payloadConfig}
+use Rattle.emdf_format.specs.Reading.{reserved, sampleOffset, codecData, configControls, payloadConfig}
 use Rattle.emdf_format.proofs.Standing.{Stands, nil, cons, join, part, Codec, bits-law, bind-inv, bind-go, choose-inv, choose-this, choose-that, step, chosen, taken, ask-end, ask-fine, give-inv, give-go, bit-zero, bit-one, neqb→ne, both, fits, and}
 use Rattle.emdf_format.proofs.Fields.{fitsVariable, refit, variable, present-law, flagged-law}
 
@@ -91,7 +91,7 @@ unfolding _&_ capacity
 group-law = flagged-law (variable-upTo 2 31 6_148_914_691_236_517_203 tt refl (lit< tt))
 
 config-sound : {s : List ℕ} {e p q : ℕ} {t : EmdfPayloadConfig} → payloadConfig s e p ≡ got t q → Stands s e p q (configBits t) × T (writableConfig t)
-unfolding payloadConfig configBits writableConfig
+unfolding payloadConfig configControls configBits writableConfig
 config-sound h =
     step (flagged-law sample-law) (bind-inv h) λ sample p₁ s₁ f₁ t₁.
     step duration-law (bind-inv t₁) λ duration p₂ s₂ f₂ t₂.
@@ -110,7 +110,7 @@ config-sound h =
     )
 
 config-exact : {s : List ℕ} {e p q : ℕ} {t : EmdfPayloadConfig} → T (writableConfig t) → Stands s e p q (configBits t) → payloadConfig s e p ≡ got t q
-unfolding payloadConfig configBits writableConfig
+unfolding payloadConfig configControls configBits writableConfig
 config-exact {s} {e} {p} {q} {t} f h =
     fits (both f) λ f₁ g₁. fits (both g₁) λ f₂ g₂. fits (both g₂) λ f₃ g₃. fits (both g₃) λ f₄ g₄. fits (both g₄) λ f₅ g₅.
     fits (both g₅) λ f₆ g₆. fits (both g₆) λ f₇ g₇. fits (both g₇) λ f₈ g₈. fits (both g₈) λ f₉ f₁₀.

@@ -7,6 +7,7 @@ use lib.Dec.{leb, ltb, eqb}
 use Rattle.openjoc_bitio.specs.Choice.{if_then_else_}
 use Rattle.openjoc_bitio.specs.Bits.{bitsValue}
 use Rattle.openjoc_bitio.specs.declared.BitError.the-variants.{EndOfInput}
+use Rattle.emdf_format.specs.declared.Optional.{Optional}
 use Rattle.emdf_format.specs.declared.EmdfError.{EmdfError}
 use Rattle.emdf_format.specs.declared.EmdfError.the-variants.{TruncatedContainer, InvalidSyncword, Bit, UnsupportedVersion, NonzeroReservedData, ReservedPrimaryProtectionLength, ExcessPadding, NonzeroPadding}
 use Rattle.emdf_format.specs.declared.EmdfPayloadConfig.{EmdfPayloadConfig}
@@ -35,13 +36,9 @@ codecData = do
   _ ← choose (eqb flag 0) (give tt) (reserved 8)
   give flag
 
-unfoldable pub payloadConfig : Reader EmdfPayloadConfig
-payloadConfig = do
-  sample-offset ← flagged sampleOffset
-  duration ← flagged (variableBits 11 2)
-  group-id ← flagged (variableBits 2 31)
-  codec ← codecData
-  discard ← bits 1
+-- the settings whose presence depends on discard, on the sample offset and on aligned
+unfoldable pub configControls : Optional → Optional → Optional → ℕ → ℕ → Reader EmdfPayloadConfig
+configControls sample-offset duration group-id codec discard = do
   aligned ← present (hasAligned discard sample-offset) (bits 1)
   create ← present (isOne aligned) (bits 1)
   remove ← present (isOne aligned) (bits 1)
@@ -59,6 +56,15 @@ payloadConfig = do
     priority = priority;
     «processing_allowed» = processing;
   })
+
+unfoldable pub payloadConfig : Reader EmdfPayloadConfig
+payloadConfig = do
+  sample-offset ← flagged sampleOffset
+  duration ← flagged (variableBits 11 2)
+  group-id ← flagged (variableBits 2 31)
+  codec ← codecData
+  discard ← bits 1
+  configControls sample-offset duration group-id codec discard
 
 -- ---- payloads, to the id 0 that ends them
 

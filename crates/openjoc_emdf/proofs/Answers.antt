@@ -1,17 +1,22 @@
 -- How a reading's definition goes on field by field, and ends, as code that takes answers apart follows it: r is the answer that is
 -- returned, and g what the answer is by the definition. Assumes nothing.
 use mathlib.Core.Path.{_≡_, refl, sym, ap, _∙_}
-use mathlib.Core.Bool.{Bool, not}
+use mathlib.Core.Bool.{Bool, true, false, not}
 use mathlib.Core.List.{List}
 use Prim.Native.Nat.{ℕ}
 use native.Mathlib.Omega.{arith}
 use lib.Dec.{T}
 use Rattle.openjoc_bitio.specs.declared.BitCursor.{BitCursor}
-use Rattle.emdf_format.specs.Reader.{Read, got, refused, Reader, _>>=_, ask, choose, cursorAt}
+use Rattle.emdf_format.specs.Reader.{Read, got, refused, Reader, _>>=_, give, ask, choose, cursorAt, present}
+use Rattle.emdf_format.specs.declared.Optional.{Optional}
 use Rattle.emdf_format.specs.declared.EmdfError.{EmdfError}
-use Rattle.emdf_format.proofs.Standing.{bind-go, bind-no, ask-go, ask-refuses, choose-this, choose-that}
-use Rattle.openjoc_emdf.specs.Answers.{fieldAnswer}
+use Rattle.emdf_format.proofs.Standing.{bind-go, bind-no, ask-go, ask-refuses, choose-this, choose-that, bind-assoc, choose-bind, give-bind}
+use Rattle.openjoc_emdf.specs.Answers.{fieldAnswer, optionalAnswer, configAnswer, fieldError, optionalError}
+use Rattle.openjoc_emdf.specs.declared.FieldAnswer.{FieldAnswer}
 use Rattle.openjoc_emdf.specs.declared.FieldAnswer.the-variants.{Value, Refused}
+use Rattle.openjoc_emdf.specs.declared.OptionalAnswer.{OptionalAnswer}
+use Rattle.openjoc_emdf.specs.declared.OptionalAnswer.the-variants as OptionalAnswer
+use Rattle.openjoc_emdf.specs.declared.ConfigAnswer.the-variants as ConfigAnswer
 
 -- ---- what an answer says of the reading
 
@@ -40,6 +45,11 @@ field-ended {e} (refused why′ q) {why} {c} h =
     let b : cursorAt e q ≡ c = cc in
     record { is = rw (a, ← b); end = rw (← b) }
 
+-- a test that the code asks the other way round
+pub not-not : (t : Bool) → not t ≡ false → T t
+not-not true h = tt
+not-not false h = absurd (let z : _≡_ {A = ℕ} 0 1 = cc in omega arith)
+
 -- ---- the next step of the definition
 
 module _ {B Z : Type 0} {r : Z} (g : ℕ → Read B → Z) where
@@ -66,3 +76,68 @@ module _ {B Z : Type 0} {r : Z} (g : ℕ → Read B → Z) where
 
   pub that : (t : Bool) (x y : Reader B) (s : List ℕ) (e p : ℕ) → T (not t) → r ≡ g e (y s e p) → r ≡ g e (choose t x y s e p)
   that t x y s e p h z = z ∙ ap (g e) (sym (choose-that t x y h refl))
+
+  -- a field within a field, and a branch within a field
+  pub regroup : {A C : Type 0} (m : Reader A) (k : A → Reader C) (f : C → Reader B) (s : List ℕ) (e p : ℕ)
+      → r ≡ g e ((m >>= λ a. k a >>= f) s e p) → r ≡ g e (((m >>= k) >>= f) s e p)
+  regroup m k f s e p z = z ∙ ap (g e) (sym (bind-assoc m k f s e p))
+
+  pub spread : {A : Type 0} (t : Bool) (x y : Reader A) (f : A → Reader B) (s : List ℕ) (e p : ℕ)
+      → r ≡ g e (choose t (x >>= f) (y >>= f) s e p) → r ≡ g e ((choose t x y >>= f) s e p)
+  spread t x y f s e p z = z ∙ ap (g e) (sym (choose-bind t x y f s e p))
+
+  pub gave : {A : Type 0} (a : A) (f : A → Reader B) (s : List ℕ) (e p : ℕ) → r ≡ g e (f a s e p) → r ≡ g e ((give a >>= f) s e p)
+  gave a f s e p z = z ∙ ap (g e) (sym (give-bind a f s e p))
+
+-- ---- the refusal of a field is the answer
+
+-- the same answer is returned
+pub field-ends : (m : Reader ℕ) (k : ℕ → Reader ℕ) (s : List ℕ) (e p : ℕ) {a : FieldAnswer} {why : EmdfError} {c : BitCursor}
+    → a ≡ fieldAnswer e (m s e p) → a ≡ Refused why c → a ≡ fieldAnswer e ((m >>= k) s e p)
+unfolding fieldAnswer
+field-ends m k s e p {a} {why} {c} h t =
+    let d = field-ended (m s e p) (sym h ∙ t) in
+    ends fieldAnswer m k s e p (d .is) (t ∙ rw (← d .end))
+
+pub optional-found : {e : ℕ} (x : Read Optional) {o : Optional} {c : BitCursor} → optionalAnswer e x ≡ OptionalAnswer.Value o c → Found x e o c
+unfolding optionalAnswer
+optional-found {e} (got w q) {o} {c} h =
+    let a : w ≡ o = cc in
+    let b : cursorAt e q ≡ c = cc in
+    record { is = rw (a, ← b); end = rw (← b) }
+optional-found (refused why q) h = absurd (let z : _≡_ {A = ℕ} 0 1 = cc in omega arith)
+
+optional-ended : (e : ℕ) (x : Read Optional) {why : EmdfError} → optionalAnswer e x ≡ OptionalAnswer.Refused why → (q : ℕ) × (x ≡ refused why q)
+unfolding optionalAnswer
+optional-ended e (got w q) h = absurd (let z : _≡_ {A = ℕ} 0 1 = cc in omega arith)
+optional-ended e (refused why′ q) {why} h = let a : why′ ≡ why = cc in (q, rw a)
+
+-- the answer h that g gives a refusal, wherever it stands
+module _ {B Z : Type 0} (g : ℕ → Read B → Z) (h : EmdfError → Z) (refuses : (e q : ℕ) (why : EmdfError) → h why ≡ g e (refused why q)) where
+  pub by-field : (m : Reader ℕ) (k : ℕ → Reader B) (s : List ℕ) (e p : ℕ) {a : FieldAnswer} {why x : EmdfError} {c : BitCursor}
+      → a ≡ fieldAnswer e (m s e p) → a ≡ Refused why c → x ≡ fieldError a → h x ≡ g e ((m >>= k) s e p)
+  unfolding fieldError
+  by-field m k s e p {a} {why} {x} {c} i t z =
+      let d = field-ended (m s e p) (sym i ∙ t) in
+      let y : x ≡ why = rw t at z in
+      ends g m k s e p (d .is) (ap h y ∙ refuses e (c .position) why)
+
+  pub by-optional : (m : Reader Optional) (k : Optional → Reader B) (s : List ℕ) (e p : ℕ) {a : OptionalAnswer} {why x : EmdfError}
+      → a ≡ optionalAnswer e (m s e p) → a ≡ OptionalAnswer.Refused why → x ≡ optionalError a → h x ≡ g e ((m >>= k) s e p)
+  unfolding optionalError
+  by-optional m k s e p {a} {why} {x} i t z =
+      let d = optional-ended e (m s e p) (sym i ∙ t) in
+      let y : x ≡ why = rw t at z in
+      ends g m k s e p (d .1) (ap h y ∙ refuses e (d .0) why)
+
+pub optional-refuses : (e q : ℕ) (why : EmdfError) → OptionalAnswer.Refused why ≡ optionalAnswer e (refused why q)
+unfolding optionalAnswer
+optional-refuses e q why = refl
+
+pub config-refuses : (e q : ℕ) (why : EmdfError) → ConfigAnswer.Refused why ≡ configAnswer e (refused why q)
+unfolding configAnswer
+config-refuses e q why = refl
+
+-- a setting whose presence was computed
+pub present-as : {a : OptionalAnswer} {t t′ : Bool} (r : Reader ℕ) (s : List ℕ) (e p : ℕ) → a ≡ optionalAnswer e (present t r s e p) → t ≡ t′ → a ≡ optionalAnswer e (present t′ r s e p)
+present-as r s e p h k = rw k at h

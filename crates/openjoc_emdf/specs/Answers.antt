@@ -6,10 +6,16 @@ use lib.Dec.{ltb, eqb}
 use Rattle.openjoc_bitio.specs.Choice.{if_then_else_}
 use Rattle.openjoc_bitio.specs.declared.BitCursor.{BitCursor}
 use Rattle.emdf_format.specs.Reader.{Read, got, refused, Reader, _>>=_, give, ask, choose, cursorAt, bits}
+use Rattle.emdf_format.specs.declared.Optional.{Optional}
+use Rattle.emdf_format.specs.declared.EmdfPayloadConfig.{EmdfPayloadConfig}
 use Rattle.emdf_format.specs.declared.EmdfError.{EmdfError}
 use Rattle.emdf_format.specs.declared.EmdfError.the-variants.{VariableBitsGroupLimit, ValueOverflow}
 use Rattle.openjoc_emdf.specs.declared.FieldAnswer.{FieldAnswer}
 use Rattle.openjoc_emdf.specs.declared.FieldAnswer.the-variants as FieldAnswer
+use Rattle.openjoc_emdf.specs.declared.OptionalAnswer.{OptionalAnswer}
+use Rattle.openjoc_emdf.specs.declared.OptionalAnswer.the-variants as OptionalAnswer
+use Rattle.openjoc_emdf.specs.declared.ConfigAnswer.{ConfigAnswer}
+use Rattle.openjoc_emdf.specs.declared.ConfigAnswer.the-variants as ConfigAnswer
 use Rattle.openjoc_emdf.specs.declared.GroupAnswer.{GroupAnswer}
 use Rattle.openjoc_emdf.specs.declared.GroupAnswer.the-variants as GroupAnswer
 use Rattle.openjoc_emdf.specs.declared.StartAnswer.{StartAnswer}
@@ -18,6 +24,24 @@ use Rattle.openjoc_emdf.specs.declared.StartAnswer.the-variants as Start
 unfoldable pub fieldAnswer : ℕ → Read ℕ → FieldAnswer
 fieldAnswer e (got v q) = FieldAnswer.Value v (cursorAt e q)
 fieldAnswer e (refused why q) = FieldAnswer.Refused why (cursorAt e q)
+
+unfoldable pub optionalAnswer : ℕ → Read Optional → OptionalAnswer
+optionalAnswer e (got o q) = OptionalAnswer.Value o (cursorAt e q)
+optionalAnswer e (refused why q) = OptionalAnswer.Refused why
+
+unfoldable pub configAnswer : ℕ → Read EmdfPayloadConfig → ConfigAnswer
+configAnswer e (got t q) = ConfigAnswer.Config t (cursorAt e q)
+configAnswer e (refused why q) = ConfigAnswer.Refused why
+
+-- ---- why an answer is refused: only refusals are asked
+
+unfoldable pub fieldError : FieldAnswer → EmdfError
+fieldError (FieldAnswer.Value v c) = ValueOverflow
+fieldError (FieldAnswer.Refused why c) = why
+
+unfoldable pub optionalError : OptionalAnswer → EmdfError
+optionalError (OptionalAnswer.Value o c) = ValueOverflow
+optionalError (OptionalAnswer.Refused why) = why
 
 -- ---- one group of a variable field
 

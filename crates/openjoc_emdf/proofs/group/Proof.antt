@@ -32,7 +32,7 @@ sub-if1 c = search needs
 
 returns-2 : tie.Need-returns-2
 unfolding oneGroup groupAnswer groupFound give
-returns-2 c = 
+returns-2 c =
     let large : 2 ^ 64 ≤ c .before .before .before .before .before .before .args .start + c .before .before .a .given .0 .0 = omega arith in
     via groupAnswer _ _ _ _ _ (field-found _ (sym (c .before .before .before .before .read-bits .ensures) ∙ c .before .before .a .given .1)) (no-more groupAnswer _ _ _ _ _ _ (T-not-of (le-ltb _ _ large)) refl)
 
@@ -50,7 +50,7 @@ refused-group-requires-2 c κs = search needs
 
 returns-3 : tie.Need-returns-3
 unfolding oneGroup groupAnswer groupFound give
-returns-3 c = 
+returns-3 c =
     let fits : c .before .before .before .before .before .before .before .before .before .before .args .start + c .before .before .before .before .before .before .a .given .0 .0 < 2 ^ 64 = omega arith in
     via groupAnswer _ _ _ _ _ (field-found _ (sym (c .before .before .before .before .before .before .before .before .read-bits .ensures) ∙ c .before .before .before .before .before .before .a .given .1)) (yes groupAnswer _ _ _ _ _ _ (T-of (lt-ltb _ _ fits)) (group-ends _ _ _ _ _ (c .before .before .before .read-bits2 .ensures) (c .before .enum-told2 .given .1) (c .refused-group2 .ensures)))
 
@@ -59,13 +59,13 @@ add-t18 c = search needs
 
 returns-4 : tie.Need-returns-4
 unfolding oneGroup groupAnswer groupFound give
-returns-4 c = 
+returns-4 c =
     let fits : c .before .before .before .before .before .before .before .before .before .before .before .args .start + c .before .before .before .before .before .before .before .a .given .0 .0 < 2 ^ 64 = omega arith in
     via groupAnswer _ _ _ _ _ (field-found _ (sym (c .before .before .before .before .before .before .before .before .before .read-bits .ensures) ∙ c .before .before .before .before .before .before .before .a .given .1)) (yes groupAnswer _ _ _ _ _ _ (T-of (lt-ltb _ _ fits)) (via groupAnswer _ _ _ _ _ (field-found _ (sym (c .before .before .before .before .read-bits2 .ensures) ∙ c .before .before .m .given .1)) (this groupAnswer _ _ _ _ _ _ (T-of (eq-eqb _ _ (c .if2 .taken))) refl)))
 
 returns-5 : tie.Need-returns-5
 unfolding oneGroup groupAnswer groupFound give
-returns-5 c = 
+returns-5 c =
     let fits : c .before .before .before .before .before .before .before .before .before .before .before .before .args .start + c .before .before .before .before .before .before .before .before .a .given .0 .0 < 2 ^ 64 = omega arith in
     let none : c .before .before .before .before .before .before .before .before .before .before .before .before .args .left - 1 ≤ 0 = omega arith in
     via groupAnswer _ _ _ _ _ (field-found _ (sym (c .before .before .before .before .before .before .before .before .before .before .read-bits .ensures) ∙ c .before .before .before .before .before .before .before .before .a .given .1)) (yes groupAnswer _ _ _ _ _ _ (T-of (lt-ltb _ _ fits)) (via groupAnswer _ _ _ _ _ (field-found _ (sym (c .before .before .before .before .before .read-bits2 .ensures) ∙ c .before .before .before .m .given .1)) (that groupAnswer _ _ _ _ _ _ (T-not-of (ne-eqb _ _ (c .before .if2 .left))) (no-more groupAnswer _ _ _ _ _ _ (T-not-of (le-ltb _ _ none)) refl))))
@@ -84,14 +84,14 @@ enum-told-3 c = search needs
 
 returns-6 : tie.Need-returns-6
 unfolding oneGroup groupAnswer groupFound give
-returns-6 c = 
+returns-6 c =
     let fits : c .before .before .before .before .before .before .before .before .before .before .before .before .before .before .before .args .start + c .before .before .before .before .before .before .before .before .before .before .before .a .given .0 .0 < 2 ^ 64 = omega arith in
     let some : 0 < c .before .before .before .before .before .before .before .before .before .before .before .before .before .before .before .args .left - 1 = omega arith in
     via groupAnswer _ _ _ _ _ (field-found _ (sym (c .before .before .before .before .before .before .before .before .before .before .before .before .before .read-bits .ensures) ∙ c .before .before .before .before .before .before .before .before .before .before .before .a .given .1)) (yes groupAnswer _ _ _ _ _ _ (T-of (lt-ltb _ _ fits)) (via groupAnswer _ _ _ _ _ (field-found _ (sym (c .before .before .before .before .before .before .before .before .read-bits2 .ensures) ∙ c .before .before .before .before .before .before .m .given .1)) (that groupAnswer _ _ _ _ _ _ (T-not-of (ne-eqb _ _ (c .before .before .before .before .if2 .left))) (yes groupAnswer _ _ _ _ _ _ (T-of (lt-ltb _ _ some)) (no-more groupAnswer _ _ _ _ _ _ (start-none _ (sym (c .before .before .next-start .ensures) ∙ c .enum-told3 .given .1)) refl)))))
 
 returns-7 : tie.Need-returns-7
 unfolding oneGroup groupAnswer groupFound give
-returns-7 c = 
+returns-7 c =
     let d = start-found _ (sym (c .before .before .before .next-start .ensures) ∙ c .before .n .given .1) in
     let fits : c .before .before .before .before .before .before .before .before .before .before .before .before .before .before .before .before .args .start + c .before .before .before .before .before .before .before .before .before .before .before .before .a .given .0 .0 < 2 ^ 64 = omega arith in
     let some : 0 < c .before .before .before .before .before .before .before .before .before .before .before .before .before .before .before .before .args .left - 1 = omega arith in

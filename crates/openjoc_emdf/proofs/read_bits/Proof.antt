@@ -17,7 +17,7 @@ enum-known-a-2 c = search needs
 
 returns : tie.Need-returns
 unfolding fieldAnswer bits fromBits
-returns c = 
+returns c =
     let h = sym (c .before .before .before .read-bits .ensures) ∙ c .before .a .given .1 in
     rw (h, ← read-past _ _ _ h)
 

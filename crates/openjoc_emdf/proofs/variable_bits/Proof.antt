@@ -15,21 +15,21 @@ use Rattle.openjoc_emdf.proofs.variable_bits.Tie as tie
 
 returns : tie.Need-returns
 unfolding variableBits fieldAnswer _&_
-returns c = 
+returns c =
     let h : c .before .before .args .width < 1 = omega arith in
     let t : leb 1 (c .before .before .args .width) & leb (c .before .before .args .width) 63 & leb 1 (c .before .before .args .limit) ≡ false = simp (lt-leb _ _ h) in
     no-more fieldAnswer _ _ _ _ _ _ (T-not-of t) refl
 
 returns-2 : tie.Need-returns-2
 unfolding variableBits fieldAnswer _&_
-returns-2 c = 
+returns-2 c =
     let h : 1 ≤ c .before .before .before .args .width = omega arith in
     let t : leb 1 (c .before .before .before .args .width) & leb (c .before .before .before .args .width) 63 & leb 1 (c .before .before .before .args .limit) ≡ false = simp (le-leb _ _ h, lt-leb _ _ (c .if2 .taken)) in
     no-more fieldAnswer _ _ _ _ _ _ (T-not-of t) refl
 
 returns-3 : tie.Need-returns-3
 unfolding variableBits fieldAnswer _&_
-returns-3 c = 
+returns-3 c =
     let h : 1 ≤ c .before .before .before .before .args .width = omega arith in
     let k : c .before .before .before .before .args .limit < 1 = omega arith in
     let t : leb 1 (c .before .before .before .before .args .width) & leb (c .before .before .before .before .args .width) 63 & leb 1 (c .before .before .before .before .args .limit) ≡ false = simp (le-leb _ _ h, le-leb _ _ (c .before .if2 .left), lt-leb _ _ k) in
@@ -40,7 +40,7 @@ groups-requires c κs = search needs
 
 returns-4 : tie.Need-returns-4
 unfolding variableBits fieldAnswer _&_
-returns-4 c = 
+returns-4 c =
     let h : 1 ≤ c .before .before .before .before .before .args .width = omega arith in
     let k : 1 ≤ c .before .before .before .before .before .args .limit = omega arith in
     let t : leb 1 (c .before .before .before .before .before .args .width) & leb (c .before .before .before .before .before .args .width) 63 & leb 1 (c .before .before .before .before .before .args .limit) ≡ true = simp (le-leb _ _ h, le-leb _ _ (c .before .before .if2 .left), le-leb _ _ k) in
