@@ -32,14 +32,17 @@ replyBytes r =
 abbrev pub cursorAt : ℕ → ℕ → BitCursor
 cursorAt p e = record { position = p; end = e }
 
+-- a number, two figures, and a cursor
+abbrev pub numbered : BitCursor → ℕ → ℕ → ℕ → BitReply
+numbered c n first second = record { number = n; first = first; second = second; cursor = c; window = cursorAt 0 0 }
+
 -- accepted: the value, and the cursor after it
 unfoldable pub accepted : BitCursor → ℕ → BitReply
-accepted c v = record { number = 0; first = v; second = 0; cursor = c; window = cursorAt 0 0 }
+accepted c v = numbered c 0 v 0
 
 -- refused: document 01's number and figures, and the cursor as it was
 unfoldable pub refusal : BitCursor → BitError → BitReply
-refusal c why =
-    record { number = number why; first = getD (figures why) 0 0; second = getD (figures why) 1 0; cursor = c; window = cursorAt 0 0 }
+refusal c why = numbered c (number why) (getD (figures why) 0 0) (getD (figures why) 1 0)
 
 unfoldable pub bitsReply : BitCursor → BitsAnswer → BitReply
 bitsReply c (BitsAnswer.Value v next) = accepted next v

@@ -4,13 +4,16 @@ ghost use Prim.Native.Nat.{_+_, _≤_};
 ghost use lib.ListN.{length};
 ghost use lib.Seq.{sets};
 ghost use Rattle.emdf_host.specs.Form.{bigEndian};
-ghost use Rattle.emdf_host.specs.Bits.{replyBytes, accepted, refusal, bitsReply, bitReply, windowReply, alignReply, newReply, remainingReply, readBitsReply, readBitReply, takeBitsReply, byteAlignReply};
+ghost use Rattle.emdf_host.specs.Bits.{replyBytes, accepted, refusal, bitsReply, bitReply, windowReply, alignReply, newReply, remainingReply, readBitsReply, readBitReply, takeBitsReply, byteAlignReply, numbered};
+ghost use Rattle.emdf_host.specs.Fields.{emdfRefusal, fieldReply, variableBitsReply};
+use emdf_format::EmdfError;
 use openjoc_bitio::AlignAnswer;
 use openjoc_bitio::BitAnswer;
 use openjoc_bitio::BitCursor;
 use openjoc_bitio::BitError;
 use openjoc_bitio::BitsAnswer;
 use openjoc_bitio::WindowAnswer;
+use openjoc_emdf::FieldAnswer;
 
 // An answer of the bit calls: its number, its value or its two figures, the cursor after it, and the window taken.
 pub struct BitReply {
@@ -96,6 +99,34 @@ pub extern "C" fn emdf_byte_align(
     put_reply(answer, align_reply(cursor, cursor.byte_align(bytes)))
 }
 
+// A variable field, with the cursor after it, also where it is refused.
+#[no_mangle]
+pub extern "C" fn emdf_variable_bits(
+    bytes: &[u8],
+    position: usize,
+    end: usize,
+    width: u8,
+    limit: u8,
+    answer: &mut [u8; 48],
+) -> u32
+    ensures { λ r. ⌜ (r ≡ variableBitsReply (now (bytes .entry)) position end width limit .number) × (now (answer .exit) ≡ replyBytes (variableBitsReply (now (bytes .entry)) position end width limit)) ⌝ }
+{
+    let cursor = BitCursor { position, end };
+    put_reply(
+        answer,
+        field_reply(openjoc_emdf::variable_bits(bytes, cursor, width, limit)),
+    )
+}
+
+fn field_reply(answer: FieldAnswer) -> BitReply
+    ensures { λ r. ⌜ r ≡ fieldReply answer ⌝ }
+{
+    match answer {
+        FieldAnswer::Value(value, next) => accepted_at(next, value),
+        FieldAnswer::Refused(why, at) => emdf_refused_at(at, why),
+    }
+}
+
 fn bits_reply(cursor: BitCursor, answer: BitsAnswer) -> BitReply
     ensures { λ r. ⌜ r ≡ bitsReply cursor answer ⌝ }
 {
@@ -141,42 +172,57 @@ fn align_reply(cursor: BitCursor, answer: AlignAnswer) -> BitReply
 fn accepted_at(cursor: BitCursor, value: u64) -> BitReply
     ensures { λ r. ⌜ r ≡ accepted cursor value ⌝ }
 {
-    BitReply {
-        number: 0,
-        first: value,
-        second: 0,
-        cursor,
-        window: BitCursor {
-            position: 0,
-            end: 0,
-        },
-    }
+    figures_at(cursor, 0, value, 0)
 }
 
 fn refused_at(cursor: BitCursor, why: BitError) -> BitReply
     ensures { λ r. ⌜ r ≡ refusal cursor why ⌝ }
 {
-    let window = BitCursor {
-        position: 0,
-        end: 0,
-    };
     match why {
         BitError::EndOfInput {
             requested,
             remaining,
-        } => BitReply {
-            number: 3,
-            first: requested as u64,
-            second: remaining as u64,
-            cursor,
-            window,
-        },
-        BitError::InvalidWidth { width } => BitReply {
-            number: 4,
-            first: width as u64,
-            second: 0,
-            cursor,
-            window,
+        } => figures_at(cursor, 3, requested as u64, remaining as u64),
+        BitError::InvalidWidth { width } => figures_at(cursor, 4, width as u64, 0),
+    }
+}
+
+fn emdf_refused_at(cursor: BitCursor, why: EmdfError) -> BitReply
+    ensures { λ r. ⌜ r ≡ emdfRefusal cursor why ⌝ }
+{
+    match why {
+        EmdfError::TruncatedContainer {
+            declared,
+            available,
+        } => figures_at(cursor, 1, declared as u64, available as u64),
+        EmdfError::InvalidSyncword { actual } => figures_at(cursor, 2, actual as u64, 0),
+        EmdfError::Bit(inner) => refused_at(cursor, inner),
+        EmdfError::InvalidVariableBits { width, limit } => {
+            figures_at(cursor, 5, width as u64, limit as u64)
+        }
+        EmdfError::VariableBitsGroupLimit { width, limit } => {
+            figures_at(cursor, 6, width as u64, limit as u64)
+        }
+        EmdfError::ValueOverflow => figures_at(cursor, 7, 0, 0),
+        EmdfError::UnsupportedVersion { version } => figures_at(cursor, 8, version, 0),
+        EmdfError::NonzeroReservedData => figures_at(cursor, 9, 0, 0),
+        EmdfError::ReservedPrimaryProtectionLength => figures_at(cursor, 10, 0, 0),
+        EmdfError::ExcessPadding { bits } => figures_at(cursor, 11, bits as u64, 0),
+        EmdfError::NonzeroPadding => figures_at(cursor, 12, 0, 0),
+    }
+}
+
+fn figures_at(cursor: BitCursor, number: u32, first: u64, second: u64) -> BitReply
+    ensures { λ r. ⌜ r ≡ numbered cursor number first second ⌝ }
+{
+    BitReply {
+        number,
+        first,
+        second,
+        cursor,
+        window: BitCursor {
+            position: 0,
+            end: 0,
         },
     }
 }

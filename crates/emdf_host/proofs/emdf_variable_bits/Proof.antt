@@ -1,0 +1,21 @@
+use borrow.Author.Needs.{needs}
+use Rattle.emdf_host.specs.Fields.{variableBitsReply}
+use Rattle.emdf_host.proofs.emdf_variable_bits.Statement.{statement}
+use Rattle.emdf_host.proofs.emdf_variable_bits.Tie as tie
+
+variable-bits-requires : tie.Need-variable-bits-requires
+variable-bits-requires c κs = search needs
+
+field-reply-requires : tie.Need-field-reply-requires
+field-reply-requires c κs = search needs
+
+put-reply-requires : tie.Need-put-reply-requires
+put-reply-requires c κs = search needs
+
+returns : tie.Need-returns
+unfolding variableBitsReply
+returns c = rw (← c .before .before .variable-bits .ensures, ← c .before .field-reply .ensures) (c .put-reply .ensures)
+
+pub emdf-variable-bits-spec : {M : Type 1} → statement M
+emdf-variable-bits-spec =
+    tie.close (tie.spec variable-bits-requires field-reply-requires put-reply-requires returns)
