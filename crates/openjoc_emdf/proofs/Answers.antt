@@ -7,16 +7,24 @@ use Prim.Native.Nat.{ℕ}
 use native.Mathlib.Omega.{arith}
 use lib.Dec.{T}
 use Rattle.openjoc_bitio.specs.declared.BitCursor.{BitCursor}
-use Rattle.emdf_format.specs.Reader.{Read, got, refused, Reader, _>>=_, give, ask, choose, cursorAt, present}
+use Rattle.emdf_format.specs.Reader.{Read, got, refused, Reader, andThen, _>>=_, give, ask, choose, cursorAt, position, present}
+use Rattle.emdf_format.specs.Reading.{Found as Payload}
 use Rattle.emdf_format.specs.declared.Optional.{Optional}
+use Rattle.emdf_format.specs.declared.EmdfPayloadConfig.{EmdfPayloadConfig}
 use Rattle.emdf_format.specs.declared.EmdfError.{EmdfError}
+use Rattle.emdf_format.proofs.Payloads.{at-go}
 use Rattle.emdf_format.proofs.Standing.{bind-go, bind-no, ask-go, ask-refuses, choose-this, choose-that, bind-assoc, choose-bind, give-bind}
-use Rattle.openjoc_emdf.specs.Answers.{fieldAnswer, optionalAnswer, configAnswer, fieldError, optionalError}
+use Rattle.openjoc_emdf.specs.Answers.{fieldAnswer, optionalAnswer, configAnswer, cursorAnswer, payloadAnswer, found, turnFound, turnAnswer, fieldError, optionalError, configError, cursorError}
 use Rattle.openjoc_emdf.specs.declared.FieldAnswer.{FieldAnswer}
 use Rattle.openjoc_emdf.specs.declared.FieldAnswer.the-variants.{Value, Refused}
 use Rattle.openjoc_emdf.specs.declared.OptionalAnswer.{OptionalAnswer}
 use Rattle.openjoc_emdf.specs.declared.OptionalAnswer.the-variants as OptionalAnswer
+use Rattle.openjoc_emdf.specs.declared.ConfigAnswer.{ConfigAnswer}
 use Rattle.openjoc_emdf.specs.declared.ConfigAnswer.the-variants as ConfigAnswer
+use Rattle.openjoc_emdf.specs.declared.CursorAnswer.{CursorAnswer}
+use Rattle.openjoc_emdf.specs.declared.CursorAnswer.the-variants as CursorAnswer
+use Rattle.openjoc_emdf.specs.declared.PayloadStep.{PayloadStep}
+use Rattle.openjoc_emdf.specs.declared.PayloadStep.the-variants as PayloadStep
 
 -- ---- what an answer says of the reading
 
@@ -86,6 +94,10 @@ module _ {B Z : Type 0} {r : Z} (g : ℕ → Read B → Z) where
       → r ≡ g e (choose t (x >>= f) (y >>= f) s e p) → r ≡ g e ((choose t x y >>= f) s e p)
   spread t x y f s e p z = z ∙ ap (g e) (sym (choose-bind t x y f s e p))
 
+  -- the position
+  pub here : (k : ℕ → Reader B) (s : List ℕ) (e p : ℕ) → r ≡ g e (k p s e p) → r ≡ g e ((position >>= k) s e p)
+  here k s e p z = z ∙ ap (g e) (sym (bind-go position k (at-go s e p) refl))
+
   pub gave : {A : Type 0} (a : A) (f : A → Reader B) (s : List ℕ) (e p : ℕ) → r ≡ g e (f a s e p) → r ≡ g e ((give a >>= f) s e p)
   gave a f s e p z = z ∙ ap (g e) (sym (give-bind a f s e p))
 
@@ -112,6 +124,31 @@ unfolding optionalAnswer
 optional-ended e (got w q) h = absurd (let z : _≡_ {A = ℕ} 0 1 = cc in omega arith)
 optional-ended e (refused why′ q) {why} h = let a : why′ ≡ why = cc in (q, rw a)
 
+pub config-found : {e : ℕ} (x : Read EmdfPayloadConfig) {t : EmdfPayloadConfig} {c : BitCursor} → configAnswer e x ≡ ConfigAnswer.Config t c → Found x e t c
+unfolding configAnswer
+config-found {e} (got w q) {t} {c} h =
+    let a : w ≡ t = cc in
+    let b : cursorAt e q ≡ c = cc in
+    record { is = rw (a, ← b); end = rw (← b) }
+config-found (refused why q) h = absurd (let z : _≡_ {A = ℕ} 0 1 = cc in omega arith)
+
+config-ended : (e : ℕ) (x : Read EmdfPayloadConfig) {why : EmdfError} → configAnswer e x ≡ ConfigAnswer.Refused why → (q : ℕ) × (x ≡ refused why q)
+unfolding configAnswer
+config-ended e (got w q) h = absurd (let z : _≡_ {A = ℕ} 0 1 = cc in omega arith)
+config-ended e (refused why′ q) {why} h = let a : why′ ≡ why = cc in (q, rw a)
+
+pub octets-found : (e : ℕ) (x : Read (List ℕ)) {c : BitCursor} → cursorAnswer e x ≡ CursorAnswer.Past c → (bs : List ℕ) × Found x e bs c
+unfolding cursorAnswer
+octets-found e (got w q) {c} h =
+    let b : cursorAt e q ≡ c = cc in
+    (w, record { is = rw (← b); end = rw (← b) })
+octets-found e (refused why q) h = absurd (let z : _≡_ {A = ℕ} 0 1 = cc in omega arith)
+
+octets-ended : (e : ℕ) (x : Read (List ℕ)) {why : EmdfError} → cursorAnswer e x ≡ CursorAnswer.Refused why → (q : ℕ) × (x ≡ refused why q)
+unfolding cursorAnswer
+octets-ended e (got w q) h = absurd (let z : _≡_ {A = ℕ} 0 1 = cc in omega arith)
+octets-ended e (refused why′ q) {why} h = let a : why′ ≡ why = cc in (q, rw a)
+
 -- the answer h that g gives a refusal, wherever it stands
 module _ {B Z : Type 0} (g : ℕ → Read B → Z) (h : EmdfError → Z) (refuses : (e q : ℕ) (why : EmdfError) → h why ≡ g e (refused why q)) where
   pub by-field : (m : Reader ℕ) (k : ℕ → Reader B) (s : List ℕ) (e p : ℕ) {a : FieldAnswer} {why x : EmdfError} {c : BitCursor}
@@ -130,6 +167,22 @@ module _ {B Z : Type 0} (g : ℕ → Read B → Z) (h : EmdfError → Z) (refuse
       let y : x ≡ why = rw t at z in
       ends g m k s e p (d .1) (ap h y ∙ refuses e (d .0) why)
 
+  pub by-config : (m : Reader EmdfPayloadConfig) (k : EmdfPayloadConfig → Reader B) (s : List ℕ) (e p : ℕ) {a : ConfigAnswer} {why x : EmdfError}
+      → a ≡ configAnswer e (m s e p) → a ≡ ConfigAnswer.Refused why → x ≡ configError a → h x ≡ g e ((m >>= k) s e p)
+  unfolding configError
+  by-config m k s e p {a} {why} {x} i t z =
+      let d = config-ended e (m s e p) (sym i ∙ t) in
+      let y : x ≡ why = rw t at z in
+      ends g m k s e p (d .1) (ap h y ∙ refuses e (d .0) why)
+
+  pub by-octets : (m : Reader (List ℕ)) (k : List ℕ → Reader B) (s : List ℕ) (e p : ℕ) {a : CursorAnswer} {why x : EmdfError}
+      → a ≡ cursorAnswer e (m s e p) → a ≡ CursorAnswer.Refused why → x ≡ cursorError a → h x ≡ g e ((m >>= k) s e p)
+  unfolding cursorError
+  by-octets m k s e p {a} {why} {x} i t z =
+      let d = octets-ended e (m s e p) (sym i ∙ t) in
+      let y : x ≡ why = rw t at z in
+      ends g m k s e p (d .1) (ap h y ∙ refuses e (d .0) why)
+
 pub optional-refuses : (e q : ℕ) (why : EmdfError) → OptionalAnswer.Refused why ≡ optionalAnswer e (refused why q)
 unfolding optionalAnswer
 optional-refuses e q why = refl
@@ -141,3 +194,24 @@ config-refuses e q why = refl
 -- a setting whose presence was computed
 pub present-as : {a : OptionalAnswer} {t t′ : Bool} (r : Reader ℕ) (s : List ℕ) (e p : ℕ) → a ≡ optionalAnswer e (present t r s e p) → t ≡ t′ → a ≡ optionalAnswer e (present t′ r s e p)
 present-as r s e p h k = rw k at h
+
+pub payload-refuses : (e q : ℕ) (why : EmdfError) → PayloadStep.Refused why ≡ payloadAnswer e (refused why q)
+unfolding payloadAnswer
+payload-refuses e q why = refl
+
+pub turn-refuses : (e q : ℕ) (why : EmdfError) → PayloadStep.Refused why ≡ turnAnswer e (refused why q)
+unfolding turnAnswer
+turn-refuses e q why = refl
+
+turn-same : (e : ℕ) (x : Read Payload) → payloadAnswer e x ≡ turnAnswer e (andThen x (λ a q. got (found a) q))
+unfolding payloadAnswer turnAnswer turnFound andThen
+turn-same e (got x q) = refl
+turn-same e (refused why q) = refl
+
+-- a payload that is found is the turn's
+pub turn-payload : {r : PayloadStep} (m : Reader Payload) (s : List ℕ) (e p : ℕ) → r ≡ payloadAnswer e (m s e p) → r ≡ turnAnswer e ((m >>= λ x. give (found x)) s e p)
+unfolding _>>=_ give
+turn-payload {r} m s e p z = z ∙ go (m s e p)
+  where
+    go : (x : Read Payload) → payloadAnswer e x ≡ turnAnswer e (andThen x (λ a q. got (found a) q))
+    go x = turn-same e x

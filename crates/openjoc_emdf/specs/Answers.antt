@@ -5,7 +5,8 @@ use Prim.Native.Nat.{ℕ, _+_, _*_, _^_}
 use lib.Dec.{ltb, eqb}
 use Rattle.openjoc_bitio.specs.Choice.{if_then_else_}
 use Rattle.openjoc_bitio.specs.declared.BitCursor.{BitCursor}
-use Rattle.emdf_format.specs.Reader.{Read, got, refused, Reader, _>>=_, give, ask, choose, cursorAt, bits}
+use Rattle.emdf_format.specs.Reader.{Read, got, refused, Reader, _>>=_, give, ask, choose, cursorAt, position, bits, extendedValue}
+use Rattle.emdf_format.specs.Reading.{Found, payloadAfter}
 use Rattle.emdf_format.specs.declared.Optional.{Optional}
 use Rattle.emdf_format.specs.declared.EmdfPayloadConfig.{EmdfPayloadConfig}
 use Rattle.emdf_format.specs.declared.EmdfError.{EmdfError}
@@ -16,6 +17,10 @@ use Rattle.openjoc_emdf.specs.declared.OptionalAnswer.{OptionalAnswer}
 use Rattle.openjoc_emdf.specs.declared.OptionalAnswer.the-variants as OptionalAnswer
 use Rattle.openjoc_emdf.specs.declared.ConfigAnswer.{ConfigAnswer}
 use Rattle.openjoc_emdf.specs.declared.ConfigAnswer.the-variants as ConfigAnswer
+use Rattle.openjoc_emdf.specs.declared.CursorAnswer.{CursorAnswer}
+use Rattle.openjoc_emdf.specs.declared.CursorAnswer.the-variants as CursorAnswer
+use Rattle.openjoc_emdf.specs.declared.PayloadStep.{PayloadStep}
+use Rattle.openjoc_emdf.specs.declared.PayloadStep.the-variants as PayloadStep
 use Rattle.openjoc_emdf.specs.declared.GroupAnswer.{GroupAnswer}
 use Rattle.openjoc_emdf.specs.declared.GroupAnswer.the-variants as GroupAnswer
 use Rattle.openjoc_emdf.specs.declared.StartAnswer.{StartAnswer}
@@ -33,6 +38,33 @@ unfoldable pub configAnswer : ℕ → Read EmdfPayloadConfig → ConfigAnswer
 configAnswer e (got t q) = ConfigAnswer.Config t (cursorAt e q)
 configAnswer e (refused why q) = ConfigAnswer.Refused why
 
+unfoldable pub cursorAnswer : ℕ → Read (List ℕ) → CursorAnswer
+cursorAnswer e (got bs q) = CursorAnswer.Past (cursorAt e q)
+cursorAnswer e (refused why q) = CursorAnswer.Refused why
+
+unfoldable pub payloadAnswer : ℕ → Read Found → PayloadStep
+payloadAnswer e (got x q) = PayloadStep.Payload (x .record-of) (cursorAt e q)
+payloadAnswer e (refused why q) = PayloadStep.Refused why
+
+-- what stands next in the list of payloads: one turn of emdf_format's payloads
+pub data Turn : Type 0 where
+  ended : Turn
+  found : Found → Turn
+
+unfoldable pub nextPayload : Reader Turn
+nextPayload = do
+  p₀ ← position
+  id ← extendedValue 5
+  choose (eqb id 0) (give ended) (do x ← payloadAfter p₀ id; give (found x))
+
+unfoldable pub turnFound : Turn → ℕ → ℕ → PayloadStep
+turnFound ended e q = PayloadStep.End (cursorAt e q)
+turnFound (found x) e q = PayloadStep.Payload (x .record-of) (cursorAt e q)
+
+unfoldable pub turnAnswer : ℕ → Read Turn → PayloadStep
+turnAnswer e (got t q) = turnFound t e q
+turnAnswer e (refused why q) = PayloadStep.Refused why
+
 -- ---- why an answer is refused: only refusals are asked
 
 unfoldable pub fieldError : FieldAnswer → EmdfError
@@ -42,6 +74,14 @@ fieldError (FieldAnswer.Refused why c) = why
 unfoldable pub optionalError : OptionalAnswer → EmdfError
 optionalError (OptionalAnswer.Value o c) = ValueOverflow
 optionalError (OptionalAnswer.Refused why) = why
+
+unfoldable pub configError : ConfigAnswer → EmdfError
+configError (ConfigAnswer.Config t c) = ValueOverflow
+configError (ConfigAnswer.Refused why) = why
+
+unfoldable pub cursorError : CursorAnswer → EmdfError
+cursorError (CursorAnswer.Past c) = ValueOverflow
+cursorError (CursorAnswer.Refused why) = why
 
 -- ---- one group of a variable field
 

@@ -3,15 +3,20 @@ ghost use mathlib.Core.Path.{_≡_};
 ghost use Prim.Native.Nat.{_+_, _-_, _*_, _^_, _≤_, _<_};
 ghost use Rattle.emdf_format.specs.Syntax.{escape as ones};
 ghost use Rattle.emdf_format.specs.Contents.{isPresent, isOne, hasAligned, hasPriority};
-ghost use Rattle.emdf_format.specs.Reader.{bits, groupsFrom, variableBits, extendedValue, present, flagged};
-ghost use Rattle.emdf_format.specs.Reading.{sampleOffset, codecData, configControls, payloadConfig};
-ghost use Rattle.openjoc_emdf.specs.Answers.{fieldAnswer, groupAnswer, startAnswer, refusedGroup, oneGroup, optionalAnswer, configAnswer, fieldError, optionalError};
+ghost use Rattle.emdf_format.specs.Reader.{bits, groupsFrom, variableBits, extendedValue, octets, present, flagged};
+ghost use Rattle.emdf_format.specs.Reading.{sampleOffset, codecData, configControls, payloadConfig, traceOf, payloadAfter};
+ghost use Rattle.openjoc_emdf.specs.Answers.{fieldAnswer, groupAnswer, startAnswer, refusedGroup, oneGroup, optionalAnswer, configAnswer, cursorAnswer, payloadAnswer, turnAnswer, nextPayload, fieldError, optionalError, configError, cursorError};
 use emdf_format::EmdfError;
+use emdf_format::EmdfPayloadBitTrace;
 use emdf_format::EmdfPayloadConfig;
 use emdf_format::MAX_DURATION_GROUPS;
 use emdf_format::MAX_EXTENDED_GROUPS;
+use emdf_format::MAX_SIZE_GROUPS;
 use emdf_format::Optional;
+use emdf_format::PayloadRecord;
 use openjoc_bitio::BitCursor;
+use openjoc_bitio::BitError;
+use openjoc_bitio::BitOffset;
 use openjoc_bitio::BitsAnswer;
 
 // A number field's answer. A refused field has the cursor after the last bit that it read.
@@ -29,6 +34,19 @@ enum OptionalAnswer {
 // What a payload's settings answer.
 enum ConfigAnswer {
     Config(EmdfPayloadConfig, BitCursor),
+    Refused(EmdfError),
+}
+
+// What passing over octets answers.
+enum CursorAnswer {
+    Past(BitCursor),
+    Refused(EmdfError),
+}
+
+// What stands next in the list of payloads: a payload, or the id 0 that ends it.
+enum PayloadStep {
+    Payload(PayloadRecord, BitCursor),
+    End(BitCursor),
     Refused(EmdfError),
 }
 
@@ -379,4 +397,90 @@ fn config_controls(
         processing_allowed: processing,
     };
     ConfigAnswer::Config(config, c5)
+}
+
+fn config_error(a: ConfigAnswer) -> EmdfError
+    ensures { λ r. ⌜ r ≡ configError a ⌝ }
+{
+    match a {
+        ConfigAnswer::Config(_, _) => EmdfError::ValueOverflow,
+        ConfigAnswer::Refused(why) => why,
+    }
+}
+
+fn cursor_error(a: CursorAnswer) -> EmdfError
+    ensures { λ r. ⌜ r ≡ cursorError a ⌝ }
+{
+    match a {
+        CursorAnswer::Past(_) => EmdfError::ValueOverflow,
+        CursorAnswer::Refused(why) => why,
+    }
+}
+
+// Past n octets in one step. A missing one is refused as its own read would be.
+fn skip_octets(s: &[u8], c: BitCursor, n: u64) -> CursorAnswer
+    ensures { λ r. ⌜ r ≡ cursorAnswer (c .end) (octets n (now (s .entry)) (c .end) (c .position)) ⌝ }
+{
+    let remaining = c.bits_remaining(s);
+    let there = (remaining / 8) as u64;
+    if there < n {
+        return CursorAnswer::Refused(EmdfError::Bit(BitError::EndOfInput {
+            requested: 8,
+            remaining: remaining % 8,
+        }));
+    }
+    let position = c.position + (n as usize) * 8;
+    let end = c.end;
+    CursorAnswer::Past(BitCursor { position, end })
+}
+
+// A payload after its id, which starts at bit start: its settings, its size, and past its body.
+fn payload_after(s: &[u8], c: BitCursor, start: usize, id: u64) -> PayloadStep
+    ensures { λ r. ⌜ r ≡ payloadAnswer (c .end) (payloadAfter start id (now (s .entry)) (c .end) (c .position)) ⌝ }
+{
+    let a1 = payload_config(s, c);
+    let ConfigAnswer::Config(config, c1) = a1 else {
+        return PayloadStep::Refused(config_error(a1));
+    };
+    let a2 = variable_bits(s, c1, 8, MAX_SIZE_GROUPS);
+    let FieldAnswer::Value(size, c2) = a2 else {
+        return PayloadStep::Refused(field_error(a2));
+    };
+    let a3 = skip_octets(s, c2, size);
+    let CursorAnswer::Past(c3) = a3 else {
+        return PayloadStep::Refused(cursor_error(a3));
+    };
+    let trace = bit_trace(start, c.position, c1.position, c2.position, c3.position);
+    PayloadStep::Payload(PayloadRecord { id, config, trace }, c3)
+}
+
+// The parts of a payload adjoin: each ends where the next one starts.
+fn bit_trace(id: usize, config: usize, size: usize, body: usize, end: usize) -> EmdfPayloadBitTrace
+    ensures { λ r. ⌜ r ≡ traceOf id config size body end ⌝ }
+{
+    EmdfPayloadBitTrace {
+        payload_id_start_bit: BitOffset(id),
+        payload_id_end_bit: BitOffset(config),
+        config_start_bit: BitOffset(config),
+        config_end_bit: BitOffset(size),
+        payload_size_start_bit: BitOffset(size),
+        payload_size_end_bit: BitOffset(body),
+        payload_body_start_bit: BitOffset(body),
+        payload_body_end_bit: BitOffset(end),
+    }
+}
+
+// The next payload, or the end of the list.
+fn next_payload(s: &[u8], c: BitCursor) -> PayloadStep
+    ensures { λ r. ⌜ r ≡ turnAnswer (c .end) (nextPayload (now (s .entry)) (c .end) (c .position)) ⌝ }
+{
+    let start = c.position;
+    let a = extended_value(s, c, 31, 5);
+    let FieldAnswer::Value(id, c1) = a else {
+        return PayloadStep::Refused(field_error(a));
+    };
+    if id == 0 {
+        return PayloadStep::End(c1);
+    }
+    payload_after(s, c1, start, id)
 }
