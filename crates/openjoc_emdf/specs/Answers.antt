@@ -2,6 +2,7 @@
 use mathlib.Core.Bool.{Bool, true, false}
 use mathlib.Core.List.{List}
 use Prim.Native.Nat.{ℕ, _+_, _*_, _^_}
+use lib.ListN.{length}
 use lib.Dec.{ltb, eqb}
 use Rattle.openjoc_bitio.specs.Choice.{if_then_else_}
 use Rattle.openjoc_bitio.specs.declared.BitCursor.{BitCursor}
@@ -21,6 +22,8 @@ use Rattle.openjoc_emdf.specs.declared.CursorAnswer.{CursorAnswer}
 use Rattle.openjoc_emdf.specs.declared.CursorAnswer.the-variants as CursorAnswer
 use Rattle.openjoc_emdf.specs.declared.PayloadStep.{PayloadStep}
 use Rattle.openjoc_emdf.specs.declared.PayloadStep.the-variants as PayloadStep
+use Rattle.openjoc_emdf.specs.declared.CountAnswer.{CountAnswer}
+use Rattle.openjoc_emdf.specs.declared.CountAnswer.the-variants as CountAnswer
 use Rattle.openjoc_emdf.specs.declared.GroupAnswer.{GroupAnswer}
 use Rattle.openjoc_emdf.specs.declared.GroupAnswer.the-variants as GroupAnswer
 use Rattle.openjoc_emdf.specs.declared.StartAnswer.{StartAnswer}
@@ -64,6 +67,14 @@ turnFound (found x) e q = PayloadStep.Payload (x .record-of) (cursorAt e q)
 unfoldable pub turnAnswer : ℕ → Read Turn → PayloadStep
 turnAnswer e (got t q) = turnFound t e q
 turnAnswer e (refused why q) = PayloadStep.Refused why
+
+-- how many payloads there are, k of them counted already
+unfoldable pub countFrom : ℕ → ℕ → Read (List Found) → CountAnswer
+countFrom k e (got xs q) = CountAnswer.Counted (k + length xs) (cursorAt e q)
+countFrom k e (refused why q) = CountAnswer.Refused why
+
+abbrev pub countAnswer : ℕ → Read (List Found) → CountAnswer
+countAnswer = countFrom 0
 
 -- ---- why an answer is refused: only refusals are asked
 

@@ -4,8 +4,9 @@ ghost use Prim.Native.Nat.{_+_, _-_, _*_, _^_, _≤_, _<_};
 ghost use Rattle.emdf_format.specs.Syntax.{escape as ones};
 ghost use Rattle.emdf_format.specs.Contents.{isPresent, isOne, hasAligned, hasPriority};
 ghost use Rattle.emdf_format.specs.Reader.{bits, groupsFrom, variableBits, extendedValue, octets, present, flagged};
-ghost use Rattle.emdf_format.specs.Reading.{sampleOffset, codecData, configControls, payloadConfig, traceOf, payloadAfter};
-ghost use Rattle.openjoc_emdf.specs.Answers.{fieldAnswer, groupAnswer, startAnswer, refusedGroup, oneGroup, optionalAnswer, configAnswer, cursorAnswer, payloadAnswer, turnAnswer, nextPayload, fieldError, optionalError, configError, cursorError};
+ghost use Rattle.emdf_format.specs.Reading.{sampleOffset, codecData, configControls, payloadConfig, traceOf, payloadAfter, payloads};
+ghost use Rattle.openjoc_bitio.specs.Cursor.{bitsRemaining};
+ghost use Rattle.openjoc_emdf.specs.Answers.{fieldAnswer, groupAnswer, startAnswer, refusedGroup, oneGroup, optionalAnswer, configAnswer, cursorAnswer, payloadAnswer, turnAnswer, nextPayload, countFrom, fieldError, optionalError, configError, cursorError};
 use emdf_format::EmdfError;
 use emdf_format::EmdfPayloadBitTrace;
 use emdf_format::EmdfPayloadConfig;
@@ -47,6 +48,12 @@ enum CursorAnswer {
 enum PayloadStep {
     Payload(PayloadRecord, BitCursor),
     End(BitCursor),
+    Refused(EmdfError),
+}
+
+// How many payloads there are, and the cursor past the id that ends them.
+enum CountAnswer {
+    Counted(usize, BitCursor),
     Refused(EmdfError),
 }
 
@@ -483,4 +490,27 @@ fn next_payload(s: &[u8], c: BitCursor) -> PayloadStep
         return PayloadStep::End(c1);
     }
     payload_after(s, c1, start, id)
+}
+
+// Reads all payloads, to the end of the list.
+fn count_payloads(s: &[u8], c: BitCursor) -> CountAnswer
+    ensures { λ r. ⌜ r ≡ countFrom 0 (c .end) (payloads (bitsRemaining (now (s .entry)) c) (now (s .entry)) (c .end) (c .position)) ⌝ }
+{
+    let mut count: usize = 0;
+    let mut at = c;
+    loop {
+        let step = next_payload(s, at);
+        match step {
+            PayloadStep::Payload(_, next) => {
+                count += 1;
+                at = next;
+            }
+            PayloadStep::End(next) => {
+                return CountAnswer::Counted(count, next);
+            }
+            PayloadStep::Refused(why) => {
+                return CountAnswer::Refused(why);
+            }
+        }
+    }
 }
