@@ -13,10 +13,13 @@ extern "C" {
 enum {
     EMDF_ACCEPTED = 0,
     EMDF_END_OF_INPUT = 3,  /* requested, remaining (bits) */
-    EMDF_INVALID_WIDTH = 4  /* width */
+    EMDF_INVALID_WIDTH = 4, /* width */
+    EMDF_INVALID_VARIABLE_BITS = 5,     /* width, limit */
+    EMDF_VARIABLE_BITS_GROUP_LIMIT = 6, /* width, limit */
+    EMDF_VALUE_OVERFLOW = 7
 };
 
-/* The size in bytes of a bit call's answer, and where its six numbers stand (see emdf_word). */
+/* The size in bytes of a bit or field call's answer, and where its six numbers stand (see emdf_word). */
 #define EMDF_BIT_ANSWER 48
 enum {
     EMDF_VALUE = 0,           /* the value read, or a refusal's first figure */
@@ -44,6 +47,10 @@ uint32_t emdf_read_bits(const uint8_t *bytes, size_t length, size_t position, si
 uint32_t emdf_read_bit(const uint8_t *bytes, size_t length, size_t position, size_t end, uint8_t *answer);
 uint32_t emdf_take_bits(const uint8_t *bytes, size_t length, size_t position, size_t end, size_t count, uint8_t *answer);
 uint32_t emdf_byte_align(const uint8_t *bytes, size_t length, size_t position, size_t end, uint8_t *answer);
+
+/* A variable field. A refused one has the cursor after the last bit that it read. */
+uint32_t emdf_variable_bits(const uint8_t *bytes, size_t length, size_t position, size_t end, uint8_t width, uint8_t limit,
+                            uint8_t *answer);
 
 #ifdef __cplusplus
 }
