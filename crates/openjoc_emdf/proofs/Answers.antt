@@ -144,7 +144,7 @@ octets-found e (got w q) {c} h =
     (w, record { is = rw (← b); end = rw (← b) })
 octets-found e (refused why q) h = absurd (let z : _≡_ {A = ℕ} 0 1 = cc in omega arith)
 
-octets-ended : (e : ℕ) (x : Read (List ℕ)) {why : EmdfError} → cursorAnswer e x ≡ CursorAnswer.Refused why → (q : ℕ) × (x ≡ refused why q)
+pub octets-ended : (e : ℕ) (x : Read (List ℕ)) {why : EmdfError} → cursorAnswer e x ≡ CursorAnswer.Refused why → (q : ℕ) × (x ≡ refused why q)
 unfolding cursorAnswer
 octets-ended e (got w q) h = absurd (let z : _≡_ {A = ℕ} 0 1 = cc in omega arith)
 octets-ended e (refused why′ q) {why} h = let a : why′ ≡ why = cc in (q, rw a)

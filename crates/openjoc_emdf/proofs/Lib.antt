@@ -1,3 +1,4 @@
 pub mod Answers
 pub mod Variable
 pub mod Turns
+pub mod Octets

@@ -1,10 +1,12 @@
 -- The calls' answers, by what the definitions of emdf_format find: e is the end of the cursor that was handed in. Assumes nothing.
 use mathlib.Core.Bool.{Bool, true, false}
-use mathlib.Core.List.{List}
-use Prim.Native.Nat.{ℕ, _+_, _*_, _^_}
-use lib.ListN.{length}
-use lib.Dec.{ltb, eqb}
+use mathlib.Core.List.{List, [], _∷_}
+use Prim.Native.Nat.{ℕ, _+_, _-_, _*_, _^_}
+use lib.ListN.{length, take, drop}
+use lib.Dec.{leb, ltb, eqb}
 use Rattle.openjoc_bitio.specs.Choice.{if_then_else_}
+use Rattle.openjoc_bitio.specs.Bits.{bitsValue}
+use Rattle.openjoc_bitio.specs.Cursor.{bitsRemaining}
 use Rattle.openjoc_bitio.specs.declared.BitCursor.{BitCursor}
 use Rattle.emdf_format.specs.Reader.{Read, got, refused, Reader, _>>=_, give, ask, choose, cursorAt, position, bits, extendedValue}
 use Rattle.emdf_format.specs.Reading.{Found, payloadAfter}
@@ -24,6 +26,11 @@ use Rattle.openjoc_emdf.specs.declared.PayloadStep.{PayloadStep}
 use Rattle.openjoc_emdf.specs.declared.PayloadStep.the-variants as PayloadStep
 use Rattle.openjoc_emdf.specs.declared.CountAnswer.{CountAnswer}
 use Rattle.openjoc_emdf.specs.declared.CountAnswer.the-variants as CountAnswer
+use Rattle.openjoc_emdf.specs.declared.ProtectionBytes.{ProtectionBytes}
+use Rattle.openjoc_emdf.specs.declared.BytesAnswer.{BytesAnswer}
+use Rattle.openjoc_emdf.specs.declared.BytesAnswer.the-variants as BytesAnswer
+use Rattle.openjoc_emdf.specs.declared.PaddingAnswer.{PaddingAnswer}
+use Rattle.openjoc_emdf.specs.declared.PaddingAnswer.the-variants as PaddingAnswer
 use Rattle.openjoc_emdf.specs.declared.GroupAnswer.{GroupAnswer}
 use Rattle.openjoc_emdf.specs.declared.GroupAnswer.the-variants as GroupAnswer
 use Rattle.openjoc_emdf.specs.declared.StartAnswer.{StartAnswer}
@@ -75,6 +82,33 @@ countFrom k e (refused why q) = CountAnswer.Refused why
 
 abbrev pub countAnswer : ℕ → Read (List Found) → CountAnswer
 countAnswer = countFrom 0
+
+-- ---- protection and padding
+
+-- the number that bytes make, the first the most significant
+unfoldable pub bytesNumber : ℕ → List ℕ → ℕ
+bytesNumber v [] = v
+bytesNumber v (b ∷ bs) = bytesNumber (v * 256 + b) bs
+
+-- at most 16 bytes: the last 8, and those before them
+unfoldable pub protectionBytes : List ℕ → ProtectionBytes
+protectionBytes bs = record {
+  length = record { 0 = length bs };
+  high = bytesNumber 0 (take (length bs - 8) bs);
+  low = bytesNumber 0 (drop (length bs - 8) bs);
+}
+
+unfoldable pub bytesAnswer : ℕ → Read (List ℕ) → BytesAnswer
+bytesAnswer e (got bs q) = BytesAnswer.Bytes (protectionBytes bs) (cursorAt e q)
+bytesAnswer e (refused why q) = BytesAnswer.Refused why
+
+-- the value of n bits, where they are there
+unfoldable pub valueThere : List ℕ → BitCursor → ℕ → ℕ
+valueThere s c n = if leb n (bitsRemaining s c) then bitsValue s (c .position) n else 0
+
+unfoldable pub paddingAnswer : Read (Unit {0}) → PaddingAnswer
+paddingAnswer (got u q) = PaddingAnswer.Padded
+paddingAnswer (refused why q) = PaddingAnswer.Refused why
 
 -- ---- why an answer is refused: only refusals are asked
 

@@ -2,11 +2,11 @@
 ghost use mathlib.Core.Path.{_≡_};
 ghost use Prim.Native.Nat.{_+_, _-_, _*_, _^_, _≤_, _<_};
 ghost use Rattle.emdf_format.specs.Syntax.{escape as ones};
-ghost use Rattle.emdf_format.specs.Contents.{isPresent, isOne, hasAligned, hasPriority};
+ghost use Rattle.emdf_format.specs.Contents.{isPresent, isOne, hasAligned, hasPriority, protectionLength};
 ghost use Rattle.emdf_format.specs.Reader.{bits, groupsFrom, variableBits, extendedValue, octets, present, flagged};
-ghost use Rattle.emdf_format.specs.Reading.{sampleOffset, codecData, configControls, payloadConfig, traceOf, payloadAfter, payloads};
+ghost use Rattle.emdf_format.specs.Reading.{sampleOffset, codecData, configControls, payloadConfig, traceOf, payloadAfter, payloads, padding};
 ghost use Rattle.openjoc_bitio.specs.Cursor.{bitsRemaining};
-ghost use Rattle.openjoc_emdf.specs.Answers.{fieldAnswer, groupAnswer, startAnswer, refusedGroup, oneGroup, optionalAnswer, configAnswer, cursorAnswer, payloadAnswer, turnAnswer, nextPayload, countFrom, fieldError, optionalError, configError, cursorError};
+ghost use Rattle.openjoc_emdf.specs.Answers.{fieldAnswer, groupAnswer, startAnswer, refusedGroup, oneGroup, optionalAnswer, configAnswer, cursorAnswer, payloadAnswer, turnAnswer, nextPayload, countFrom, bytesAnswer, valueThere, paddingAnswer, fieldError, optionalError, configError, cursorError};
 use emdf_format::EmdfError;
 use emdf_format::EmdfPayloadBitTrace;
 use emdf_format::EmdfPayloadConfig;
@@ -19,6 +19,7 @@ use openjoc_bitio::BitCursor;
 use openjoc_bitio::BitError;
 use openjoc_bitio::BitOffset;
 use openjoc_bitio::BitsAnswer;
+use openjoc_bitio::ByteCount;
 
 // A number field's answer. A refused field has the cursor after the last bit that it read.
 pub enum FieldAnswer {
@@ -35,6 +36,25 @@ enum OptionalAnswer {
 // What a payload's settings answer.
 enum ConfigAnswer {
     Config(EmdfPayloadConfig, BitCursor),
+    Refused(EmdfError),
+}
+
+// At most 16 bytes of protection, as a number of 128 bits with the last byte its lowest: an enum can't hold an array.
+pub struct ProtectionBytes {
+    pub length: ByteCount,
+    pub high: u64,
+    pub low: u64,
+}
+
+// What the bytes of a protection answer.
+enum BytesAnswer {
+    Bytes(ProtectionBytes, BitCursor),
+    Refused(EmdfError),
+}
+
+// What the bits after the protection answer.
+enum PaddingAnswer {
+    Padded,
     Refused(EmdfError),
 }
 
@@ -513,4 +533,70 @@ fn count_payloads(s: &[u8], c: BitCursor) -> CountAnswer
             }
         }
     }
+}
+
+// A protection's length, by its code.
+fn protection_length(code: u64) -> usize
+    ensures { λ r. ⌜ r ≡ protectionLength code ⌝ }
+{
+    match code {
+        0 => 0,
+        1 => 1,
+        2 => 4,
+        _ => 16,
+    }
+}
+
+// n octets of a protection, at most 16.
+fn protection_bytes(s: &[u8], c: BitCursor, n: usize) -> BytesAnswer
+    requires { ⌜ n ≤ 16 ⌝ }
+    ensures { λ r. ⌜ r ≡ bytesAnswer (c .end) (octets n (now (s .entry)) (c .end) (c .position)) ⌝ }
+{
+    let a = skip_octets(s, c, n as u64);
+    let CursorAnswer::Past(past) = a else {
+        return BytesAnswer::Refused(cursor_error(a));
+    };
+    let more = above_eight(n);
+    let position = c.position + more * 8;
+    let high = value_at(s, c, more * 8);
+    let end = c.end;
+    let low = value_at(s, BitCursor { position, end }, (n - more) * 8);
+    let length = ByteCount(n);
+    BytesAnswer::Bytes(ProtectionBytes { length, high, low }, past)
+}
+
+// How much n is above 8.
+fn above_eight(n: usize) -> usize
+    ensures { λ r. ⌜ r ≡ n - 8 ⌝ }
+{
+    if n < 8 {
+        return 0;
+    }
+    n - 8
+}
+
+// The value of n bits that are there; 0 where they are not.
+fn value_at(s: &[u8], c: BitCursor, n: usize) -> u64
+    requires { ⌜ n ≤ 64 ⌝ }
+    ensures { λ r. ⌜ r ≡ valueThere (now (s .entry)) c n ⌝ }
+{
+    let a = c.read_bits(s, n as u8);
+    let BitsAnswer::Value(value, _) = a else {
+        return 0;
+    };
+    value
+}
+
+// To the end of the declared length: at most 7 bits, all zero.
+fn check_padding(s: &[u8], c: BitCursor) -> PaddingAnswer
+    ensures { λ r. ⌜ r ≡ paddingAnswer (padding (now (s .entry)) (c .end) (c .position)) ⌝ }
+{
+    let remaining = c.bits_remaining(s);
+    if 7 < remaining {
+        return PaddingAnswer::Refused(EmdfError::ExcessPadding { bits: remaining });
+    }
+    if value_at(s, c, remaining) != 0 {
+        return PaddingAnswer::Refused(EmdfError::NonzeroPadding);
+    }
+    PaddingAnswer::Padded
 }

@@ -1,0 +1,186 @@
+-- Octets that stand at a position, as numbers. Assumes nothing.
+use mathlib.Core.Path.{_≡_, refl, sym, ap, _∙_}
+use mathlib.Core.List.{List, [], _∷_, _++_}
+use Prim.Native.Nat.{ℕ, zero, suc, _+_, _-_, _*_, _%_, _≤_, _<_}
+use native.Mathlib.Omega.{arith}
+use native.Mathlib.Nat.{add-zero, le-refl}
+use lib.ListN.{length, take, drop}
+use lib.Dec.{leb, eqb}
+use borrow.Author.Tests.{le-leb, lt-leb, eq-eqb, ne-eqb}
+use mathlib.Core.Bool.{Bool, true, false}
+use native.Mathlib.Decide.{decLe}
+use Rattle.openjoc_bitio.specs.Choice.{if_then_else_}
+use Rattle.openjoc_bitio.specs.Bits.{bitsValue}
+use Rattle.openjoc_bitio.specs.Cursor.{bitsRemaining, past, readBits}
+use Rattle.openjoc_bitio.specs.declared.BitError.{BitError}
+use Rattle.openjoc_bitio.specs.declared.BitError.the-variants.{EndOfInput}
+use Rattle.openjoc_bitio.specs.declared.BitsAnswer.the-variants.{Value, Refused}
+use Rattle.openjoc_bitio.specs.declared.BitCursor.{BitCursor}
+use Rattle.openjoc_bitio.proofs.Bits.{value-none, value-split}
+use Rattle.emdf_format.specs.Calls.{octetsAt}
+use Rattle.emdf_format.specs.Contents.{protectionLength}
+use Rattle.emdf_format.specs.Reader.{got, refused, _>>=_, ask, cursorAt, remaining, bits, octets}
+use Rattle.emdf_format.specs.Reading.{padding}
+use Rattle.emdf_format.specs.declared.EmdfError.the-variants.{Bit, ExcessPadding, NonzeroPadding}
+use Rattle.emdf_format.proofs.Standing.{bitLimit, remaining-limit, T-of, T-not-of, bind-go, ask-go, ask-refuses, ask-fine}
+use Rattle.emdf_format.proofs.Loops.{bits-there, octets-there, octets-short}
+use Rattle.openjoc_emdf.specs.Answers.{bytesNumber, protectionBytes, bytesAnswer, valueThere, cursorAnswer, paddingAnswer}
+use Rattle.openjoc_emdf.specs.declared.CursorAnswer.the-variants as CursorAnswer
+use Rattle.openjoc_emdf.specs.declared.PaddingAnswer.the-variants as PaddingAnswer
+use Rattle.openjoc_emdf.specs.declared.BytesAnswer.the-variants as BytesAnswer
+
+pub length-octets-at : (s : List ℕ) (p n : ℕ) → length (octetsAt s p n) ≡ n
+unfolding octetsAt
+length-octets-at s p zero = refl
+length-octets-at s p (suc n) = ap suc (length-octets-at s (p + 8) n)
+
+-- octets, taken after k bits that make v
+octets-number : (s : List ℕ) (p k n : ℕ) → bytesNumber (bitsValue s p k) (octetsAt s (p + k) n) ≡ bitsValue s p (k + 8 * n)
+unfolding bytesNumber octetsAt
+octets-number s p k zero = let z : k + 8 * 0 ≡ k = omega arith in rw z
+octets-number s p k (suc n) =
+    let z : p + k + 8 ≡ p + (k + 8) = omega arith in
+    let y : k + 8 + 8 * n ≡ k + 8 * suc n = omega arith in
+    let v : bitsValue s p k * 256 + bitsValue s (p + k) 8 ≡ bitsValue s p (k + 8) = sym (value-split s p k 8) in
+    ap (λ (w : ℕ). bytesNumber w (octetsAt s (p + k + 8) n)) v
+    ∙ ap (λ (q : ℕ). bytesNumber (bitsValue s p (k + 8)) (octetsAt s q n)) z
+    ∙ octets-number s p (k + 8) n
+    ∙ ap (bitsValue s p) y
+
+pub octets-value : (s : List ℕ) (p n : ℕ) → bytesNumber 0 (octetsAt s p n) ≡ bitsValue s p (8 * n)
+octets-value s p n =
+    let h = octets-number s p 0 n in
+    let z : 0 + 8 * n ≡ 8 * n = omega arith in
+    rw (value-none, add-zero, z) at h
+
+octets-take : (s : List ℕ) (p k n : ℕ) → take k (octetsAt s p (k + n)) ≡ octetsAt s p k
+unfolding octetsAt
+octets-take s p zero n = refl
+octets-take s p (suc k) n = let z : suc k + n ≡ suc (k + n) = omega arith in rw (z, octets-take s (p + 8) k n)
+
+octets-drop : (s : List ℕ) (p k n : ℕ) → drop k (octetsAt s p (k + n)) ≡ octetsAt s (p + 8 * k) n
+unfolding octetsAt
+octets-drop s p zero n = let z : 0 + n ≡ n = omega arith in let y : p + 8 * 0 ≡ p = omega arith in rw (z, y)
+octets-drop s p (suc k) n =
+    let z : suc k + n ≡ suc (k + n) = omega arith in
+    let y : p + 8 + 8 * k ≡ p + 8 * suc k = omega arith in
+    rw z (rw y at (octets-drop s (p + 8) k n))
+
+-- ---- at most 16 octets, as two numbers
+
+there : (s : List ℕ) (c : BitCursor) (n : ℕ) → n ≤ bitsRemaining s c → valueThere s c n ≡ bitsValue s (c .position) n
+unfolding valueThere
+there s c n h = simp (le-leb n (bitsRemaining s c) h)
+
+pub high-is : (s : List ℕ) (c : BitCursor) (n : ℕ) → 8 * n ≤ bitsRemaining s c → valueThere s c ((n - 8) * 8) ≡ bytesNumber 0 (take (n - 8) (octetsAt s (c .position) n))
+high-is s c n h =
+    let z : n ≡ n - 8 + (n - (n - 8)) = omega arith in
+    let y : (n - 8) * 8 ≡ 8 * (n - 8) = omega arith in
+    let l : 8 * (n - 8) ≤ bitsRemaining s c = omega arith in
+    let t : take (n - 8) (octetsAt s (c .position) n) ≡ octetsAt s (c .position) (n - 8) = ap (λ (m : ℕ). take (n - 8) (octetsAt s (c .position) m)) z ∙ octets-take s (c .position) (n - 8) (n - (n - 8)) in
+    rw y (there s c (8 * (n - 8)) l ∙ sym (octets-value s (c .position) (n - 8)) ∙ ap (bytesNumber 0) (sym t))
+
+pub low-is : (s : List ℕ) (c d : BitCursor) (n : ℕ) → d .position ≡ c .position + (n - 8) * 8 → 8 * (n - (n - 8)) ≤ bitsRemaining s d
+    → valueThere s d ((n - (n - 8)) * 8) ≡ bytesNumber 0 (drop (n - 8) (octetsAt s (c .position) n))
+low-is s c d n e l =
+    let z : n ≡ n - 8 + (n - (n - 8)) = omega arith in
+    let y : (n - (n - 8)) * 8 ≡ 8 * (n - (n - 8)) = omega arith in
+    let w : c .position + 8 * (n - 8) ≡ d .position = omega arith in
+    let t : drop (n - 8) (octetsAt s (c .position) n) ≡ octetsAt s (d .position) (n - (n - 8)) =
+    ap (λ (m : ℕ). drop (n - 8) (octetsAt s (c .position) m)) z ∙ octets-drop s (c .position) (n - 8) (n - (n - 8)) ∙ ap (λ (q : ℕ). octetsAt s q (n - (n - 8))) w in
+    rw y (there s d (8 * (n - (n - 8))) l ∙ sym (octets-value s (d .position) (n - (n - 8))) ∙ ap (bytesNumber 0) (sym t))
+
+-- ---- the code's answers
+
+pub value-read : (s : List ℕ) (c : BitCursor) (n : ℕ) {v : ℕ} {d : BitCursor} → n ≤ 64 → readBits s c n ≡ Value v d → v ≡ valueThere s c n
+unfolding readBits valueThere
+value-read s c n {v} {d} h k = go (leb n (bitsRemaining s c)) (simp (le-leb n 64 h) at k)
+  where
+    go : (t : Bool) → (if t then Value (bitsValue s (c .position) n) (past c n) else Refused (EndOfInput n (bitsRemaining s c))) ≡ Value v d → v ≡ (if t then bitsValue s (c .position) n else 0)
+    go true f = cc
+    go false f = absurd (let z : _≡_ {A = ℕ} 0 1 = cc in omega arith)
+
+pub value-unread : (s : List ℕ) (c : BitCursor) (n : ℕ) {why : BitError} → n ≤ 64 → readBits s c n ≡ Refused why → 0 ≡ valueThere s c n
+unfolding readBits valueThere
+value-unread s c n {why} h k = go (leb n (bitsRemaining s c)) (simp (le-leb n 64 h) at k)
+  where
+    go : (t : Bool) → (if t then Value (bitsValue s (c .position) n) (past c n) else Refused (EndOfInput n (bitsRemaining s c))) ≡ Refused why → 0 ≡ (if t then bitsValue s (c .position) n else 0)
+    go true f = absurd (let z : _≡_ {A = ℕ} 0 1 = cc in omega arith)
+    go false f = refl
+
+pub protection-long : (c : ℕ) → (c ≡ 0 → ⊥) → (c ≡ 1 → ⊥) → (c ≡ 2 → ⊥) → 16 ≡ protectionLength c
+unfolding protectionLength
+protection-long zero a b d = absurd (a refl)
+protection-long (suc zero) a b d = absurd (b refl)
+protection-long (suc (suc zero)) a b d = absurd (d refl)
+protection-long (suc (suc (suc c))) a b d = refl
+
+-- octets that are passed over are there
+pub record Passed (s : List ℕ) (e p n : ℕ) (c : BitCursor) : Type 0 where
+  pub room : 8 * n ≤ bitLimit s e - p
+  pub is : octets n s e p ≡ got (octetsAt s p n) (c .position)
+  pub end : c .end ≡ e
+
+pub passed : (s : List ℕ) (e p n : ℕ) {c : BitCursor} → cursorAnswer e (octets n s e p) ≡ CursorAnswer.Past c → Passed s e p n c
+unfolding cursorAnswer
+passed s e p n {c} h = elim (decLe (8 * n) (bitLimit s e - p)) [ yes l ↦ fine l | no l ↦ short (omega arith) ]
+  where
+    fine : 8 * n ≤ bitLimit s e - p → Passed s e p n c
+    fine l =
+        let o = octets-there n s e p l in
+        let k : CursorAnswer.Past (cursorAt e (p + 8 * n)) ≡ CursorAnswer.Past c = rw o at h in
+        let b : cursorAt e (p + 8 * n) ≡ c = cc in
+        record { room = l; is = rw (← b) o; end = rw (← b) }
+
+    short : bitLimit s e - p < 8 * n → Passed s e p n c
+    short l =
+        let o = octets-short n s e p l in
+        let k : CursorAnswer.Refused (Bit (EndOfInput 8 ((bitLimit s e - p) % 8))) ≡ CursorAnswer.Past c = rw o at h in
+        absurd (let z : _≡_ {A = ℕ} 0 1 = cc in omega arith)
+
+-- ---- padding
+
+asked-no : (v : ℕ) (s : List ℕ) (e p : ℕ) → (v ≡ 0 → ⊥) → ask (eqb v 0) NonzeroPadding s e p ≡ refused NonzeroPadding p
+unfolding ask
+asked-no v s e p k = rw (ne-eqb v 0 k)
+
+module _ (s : List ℕ) (e p : ℕ) where
+  abbrev rest : ℕ
+  rest = bitsRemaining s (cursorAt e p)
+
+  left : remaining s e p ≡ got rest p
+  unfolding remaining
+  left = refl
+
+  all-there : rest ≤ 7 → bits rest s e p ≡ got (bitsValue s p rest) (p + rest)
+  all-there h = bits-there rest s e p (omega arith) (omega (arith, remaining-limit s e p))
+
+  pub pad-excess : 7 < rest → PaddingAnswer.Refused (ExcessPadding rest) ≡ paddingAnswer (padding s e p)
+  unfolding padding paddingAnswer
+  pad-excess h = rw (bind-go remaining _ left (ask-refuses _ _ _ s e p (T-not-of (lt-leb rest 7 h))))
+
+  pub pad-nonzero : rest ≤ 7 → (bitsValue s p rest ≡ 0 → ⊥) → PaddingAnswer.Refused NonzeroPadding ≡ paddingAnswer (padding s e p)
+  unfolding padding paddingAnswer
+  pad-nonzero h k =
+      rw (bind-go remaining _ left (ask-go _ _ _ (T-of (le-leb rest 7 h)) (bind-go (bits rest) _ (all-there h) (asked-no (bitsValue s p rest) s e (p + rest) k))))
+
+  pub pad-fine : rest ≤ 7 → bitsValue s p rest ≡ 0 → PaddingAnswer.Padded ≡ paddingAnswer (padding s e p)
+  unfolding padding paddingAnswer
+  pad-fine h k =
+      rw (bind-go remaining _ left (ask-go _ _ _ (T-of (le-leb rest 7 h)) (bind-go (bits rest) _ (all-there h) (ask-fine _ _ s e (T-of (eq-eqb (bitsValue s p rest) 0 k)) refl))))
+
+pub rest-value : (s : List ℕ) (c : BitCursor) {n : ℕ} → n ≡ bitsRemaining s c → valueThere s c n ≡ bitsValue s (c .position) (bitsRemaining s c)
+rest-value s c {n} h = rw h (there s c (bitsRemaining s c) (le-refl _))
+
+-- ---- a protection, read in two parts
+
+pub bytes-are : (s : List ℕ) (c : BitCursor) (n : ℕ) {past : BitCursor} {more high low : ℕ} → Passed s (c .end) (c .position) n past → more ≡ n - 8
+    → high ≡ valueThere s c (more * 8) → low ≡ valueThere s (cursorAt (c .end) (c .position + more * 8)) ((n - more) * 8)
+    → BytesAnswer.Bytes (record { length = record { 0 = n }; high = high; low = low }) past ≡ bytesAnswer (c .end) (octets n s (c .end) (c .position))
+unfolding bytesAnswer protectionBytes
+bytes-are s c n {past} {more} {high} {low} d m h l =
+    let r : bitsRemaining s c ≡ bitLimit s (c .end) - c .position = remaining-limit s (c .end) (c .position) in
+    let k : bitsRemaining s (cursorAt (c .end) (c .position + (n - 8) * 8)) ≡ bitLimit s (c .end) - (c .position + (n - 8) * 8) = remaining-limit s (c .end) (c .position + (n - 8) * 8) in
+    let h′ : high ≡ bytesNumber 0 (take (n - 8) (octetsAt s (c .position) n)) = rw m at h ∙ high-is s c n (omega (arith, d .room)) in
+    let l′ : low ≡ bytesNumber 0 (drop (n - 8) (octetsAt s (c .position) n)) = rw m at l ∙ low-is s c (cursorAt (c .end) (c .position + (n - 8) * 8)) n refl (omega (arith, d .room)) in
+    rw (d .is, length-octets-at, h′, l′, ← d .end)
