@@ -13,7 +13,7 @@ use Rattle.openjoc_bitio.proofs.Bits.{length-number}
 use Rattle.emdf_format.specs.Syntax.{_⨟_, escape, extendedField}
 use Rattle.emdf_format.specs.Contents.{_&_, Contents, protectionLength, protectionCode, codable, protectionBits, writable, containerBits, allBytes, contentsAreBytes}
 use Rattle.emdf_format.specs.Reader.{got, remaining, extendedValue}
-use Rattle.emdf_format.specs.Reading.{Container, payloads, padding, container, contentsOf}
+use Rattle.emdf_format.specs.Reading.{Container, payloads, padding, containerEnd, container, contentsOf}
 use Rattle.emdf_format.proofs.Standing.{Stands, join, part, Codec, bits-law, bitLimit, remaining-limit, bind-inv, bind-go, ask-inv, ask-go, ask-end, ask-fine, step, asked, taken, give-inv, give-go, neqb→ne, ne→neqb, same-what, same-to, both, fits, and, stands-to, stands-in}
 use Rattle.emdf_format.proofs.Fields.{sized, fitsExtended, extended, octets-law}
 use Rattle.emdf_format.proofs.Payloads.{word, key-law, Listed, traced-stands, payloads-sound, payloads-exact, payloads-long, allFoundFrom, encodable-from, encodable-to}
@@ -130,7 +130,7 @@ pub record Contained (s : List ℕ) (e p q : ℕ) (c : Container) : Type 0 where
   pub pad : Padded s e end q
 
 pub container-sound : {s : List ℕ} {e p q : ℕ} {c : Container} → container s e p ≡ got c q → Contained s e p q c
-unfolding container writable contentsAreBytes word protectionBits
+unfolding container containerEnd writable contentsAreBytes word protectionBits
 container-sound {s} {e} {p} {q} {c} h =
     step version-law (bind-inv h) λ version p₁ s₁ f₁ t₁.
     asked (ask-inv t₁) λ v₀ t₂.
@@ -187,7 +187,7 @@ containerFrom p c = record {
 
 pub container-exact : {s : List ℕ} {e p m q : ℕ} (c : Contents) → bitLimit s e ≤ 8 * 65539 → T (writable c) → T (contentsAreBytes c)
     → Stands s e p m (containerBits c) → Padded s e m q → container s e p ≡ got (containerFrom p c) q
-unfolding container containerBits protectionBits writable contentsAreBytes word sized codable
+unfolding container containerEnd containerBits protectionBits writable contentsAreBytes word sized codable
 container-exact {s} {e} {p} {m} {q} c l f b h d =
     fits (both f) λ f₂ g₂. fits (both g₂) λ fx g₃. fits (both g₃) λ z g₄. fits (both g₄) λ fp fs.
     fits (both b) λ bx g₅. fits (both g₅) λ bp bs.

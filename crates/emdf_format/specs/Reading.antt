@@ -126,13 +126,9 @@ padding = do
   z ← bits n
   ask (eqb z 0) NonzeroPadding
 
-unfoldable pub container : Reader Container
-container = do
-  version ← extendedValue 2
-  _ ← ask (eqb version 0) (UnsupportedVersion version)
-  key-id ← extendedValue 3
-  n ← remaining
-  found ← payloads n
+-- what follows the payloads
+unfoldable pub containerEnd : ℕ → List Found → Reader Container
+containerEnd key-id found = do
   primary-code ← bits 2
   secondary-code ← bits 2
   _ ← ask (not (eqb primary-code 0)) ReservedPrimaryProtectionLength
@@ -140,6 +136,15 @@ container = do
   secondary ← octets (protectionLength secondary-code)
   _ ← padding
   give (record { key-id = key-id; found = found; primary = primary; secondary = secondary })
+
+unfoldable pub container : Reader Container
+container = do
+  version ← extendedValue 2
+  _ ← ask (eqb version 0) (UnsupportedVersion version)
+  key-id ← extendedValue 3
+  n ← remaining
+  found ← payloads n
+  containerEnd key-id found
 
 -- ---- the carrier: emdf_sync()
 

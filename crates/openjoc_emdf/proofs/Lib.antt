@@ -2,3 +2,4 @@ pub mod Answers
 pub mod Variable
 pub mod Turns
 pub mod Octets
+pub mod Ends

@@ -9,7 +9,7 @@ use Rattle.openjoc_bitio.specs.Bits.{bitsValue}
 use Rattle.openjoc_bitio.specs.Cursor.{bitsRemaining}
 use Rattle.openjoc_bitio.specs.declared.BitCursor.{BitCursor}
 use Rattle.emdf_format.specs.Reader.{Read, got, refused, Reader, _>>=_, give, ask, choose, cursorAt, position, bits, extendedValue}
-use Rattle.emdf_format.specs.Reading.{Found, payloadAfter}
+use Rattle.emdf_format.specs.Reading.{Found, payloadAfter, Container}
 use Rattle.emdf_format.specs.declared.Optional.{Optional}
 use Rattle.emdf_format.specs.declared.EmdfPayloadConfig.{EmdfPayloadConfig}
 use Rattle.emdf_format.specs.declared.EmdfError.{EmdfError}
@@ -31,6 +31,9 @@ use Rattle.openjoc_emdf.specs.declared.BytesAnswer.{BytesAnswer}
 use Rattle.openjoc_emdf.specs.declared.BytesAnswer.the-variants as BytesAnswer
 use Rattle.openjoc_emdf.specs.declared.PaddingAnswer.{PaddingAnswer}
 use Rattle.openjoc_emdf.specs.declared.PaddingAnswer.the-variants as PaddingAnswer
+use Rattle.openjoc_emdf.specs.declared.EmdfContainer.{EmdfContainer}
+use Rattle.openjoc_emdf.specs.declared.ContainerAnswer.{ContainerAnswer}
+use Rattle.openjoc_emdf.specs.declared.ContainerAnswer.the-variants as ContainerAnswer
 use Rattle.openjoc_emdf.specs.declared.GroupAnswer.{GroupAnswer}
 use Rattle.openjoc_emdf.specs.declared.GroupAnswer.the-variants as GroupAnswer
 use Rattle.openjoc_emdf.specs.declared.StartAnswer.{StartAnswer}
@@ -110,7 +113,32 @@ unfoldable pub paddingAnswer : Read (Unit {0}) → PaddingAnswer
 paddingAnswer (got u q) = PaddingAnswer.Padded
 paddingAnswer (refused why q) = PaddingAnswer.Refused why
 
+-- ---- the container
+
+unfoldable pub containerOf : Container → EmdfContainer
+containerOf c = record {
+  «key_id» = c .key-id;
+  payloads = length (c .found);
+  protection = record { primary = protectionBytes (c .primary); secondary = protectionBytes (c .secondary) };
+}
+
+unfoldable pub containerAnswer : ℕ → Read Container → ContainerAnswer
+containerAnswer e (got c q) = ContainerAnswer.Container (containerOf c)
+containerAnswer e (refused why q) = ContainerAnswer.Refused why
+
 -- ---- why an answer is refused: only refusals are asked
+
+unfoldable pub countError : CountAnswer → EmdfError
+countError (CountAnswer.Counted n c) = ValueOverflow
+countError (CountAnswer.Refused why) = why
+
+unfoldable pub bytesError : BytesAnswer → EmdfError
+bytesError (BytesAnswer.Bytes b c) = ValueOverflow
+bytesError (BytesAnswer.Refused why) = why
+
+unfoldable pub paddingError : PaddingAnswer → EmdfError
+paddingError PaddingAnswer.Padded = ValueOverflow
+paddingError (PaddingAnswer.Refused why) = why
 
 unfoldable pub fieldError : FieldAnswer → EmdfError
 fieldError (FieldAnswer.Value v c) = ValueOverflow

@@ -4,9 +4,12 @@ ghost use Prim.Native.Nat.{_+_, _-_, _*_, _^_, _≤_, _<_};
 ghost use Rattle.emdf_format.specs.Syntax.{escape as ones};
 ghost use Rattle.emdf_format.specs.Contents.{isPresent, isOne, hasAligned, hasPriority, protectionLength};
 ghost use Rattle.emdf_format.specs.Reader.{bits, groupsFrom, variableBits, extendedValue, octets, present, flagged};
-ghost use Rattle.emdf_format.specs.Reading.{sampleOffset, codecData, configControls, payloadConfig, traceOf, payloadAfter, payloads, padding};
+ghost use Rattle.emdf_format.specs.Reading.{sampleOffset, codecData, configControls, payloadConfig, traceOf, Found, payloadAfter, payloads, padding, containerEnd, container};
+ghost use Prim.Native.Nat.{ℕ};
+ghost use mathlib.Core.List.{List};
+ghost use lib.ListN.{length};
 ghost use Rattle.openjoc_bitio.specs.Cursor.{bitsRemaining};
-ghost use Rattle.openjoc_emdf.specs.Answers.{fieldAnswer, groupAnswer, startAnswer, refusedGroup, oneGroup, optionalAnswer, configAnswer, cursorAnswer, payloadAnswer, turnAnswer, nextPayload, countFrom, bytesAnswer, valueThere, paddingAnswer, fieldError, optionalError, configError, cursorError};
+ghost use Rattle.openjoc_emdf.specs.Answers.{fieldAnswer, groupAnswer, startAnswer, refusedGroup, oneGroup, optionalAnswer, configAnswer, cursorAnswer, payloadAnswer, turnAnswer, nextPayload, countFrom, bytesAnswer, valueThere, paddingAnswer, containerAnswer, countError, bytesError, paddingError, fieldError, optionalError, configError, cursorError};
 use emdf_format::EmdfError;
 use emdf_format::EmdfPayloadBitTrace;
 use emdf_format::EmdfPayloadConfig;
@@ -44,6 +47,52 @@ pub struct ProtectionBytes {
     pub length: ByteCount,
     pub high: u64,
     pub low: u64,
+}
+
+// Both protections, which are not looked into.
+pub struct EmdfProtection {
+    pub primary: ProtectionBytes,
+    pub secondary: ProtectionBytes,
+}
+
+// A container: its key id, how many payloads it has, and its protection.
+pub struct EmdfContainer {
+    pub key_id: u64,
+    pub payloads: usize,
+    pub protection: EmdfProtection,
+}
+
+// A carrier that is read: its container, and the bytes that it takes.
+pub struct ParsedEmdf {
+    pub container: EmdfContainer,
+    pub bytes_consumed: ByteCount,
+}
+
+// What reading a carrier answers.
+pub enum ParseAnswer {
+    Parsed(ParsedEmdf),
+    Refused(EmdfError),
+}
+
+// What a range that may be a carrier is.
+pub enum CarrierClassification {
+    // No sync word at its start.
+    NonEmdf,
+    // Exactly one container.
+    Parsed(ParsedEmdf),
+    // A container, and bytes after it.
+    TrailingData {
+        container_bytes: ByteCount,
+        carrier_bytes: ByteCount,
+    },
+    // A sync word, and then no container.
+    Malformed(EmdfError),
+}
+
+// What a container answers.
+enum ContainerAnswer {
+    Container(EmdfContainer),
+    Refused(EmdfError),
 }
 
 // What the bytes of a protection answer.
@@ -599,4 +648,88 @@ fn check_padding(s: &[u8], c: BitCursor) -> PaddingAnswer
         return PaddingAnswer::Refused(EmdfError::NonzeroPadding);
     }
     PaddingAnswer::Padded
+}
+
+fn count_error(a: CountAnswer) -> EmdfError
+    ensures { λ r. ⌜ r ≡ countError a ⌝ }
+{
+    match a {
+        CountAnswer::Counted(_, _) => EmdfError::ValueOverflow,
+        CountAnswer::Refused(why) => why,
+    }
+}
+
+fn bytes_error(a: BytesAnswer) -> EmdfError
+    ensures { λ r. ⌜ r ≡ bytesError a ⌝ }
+{
+    match a {
+        BytesAnswer::Bytes(_, _) => EmdfError::ValueOverflow,
+        BytesAnswer::Refused(why) => why,
+    }
+}
+
+fn padding_error(a: PaddingAnswer) -> EmdfError
+    ensures { λ r. ⌜ r ≡ paddingError a ⌝ }
+{
+    match a {
+        PaddingAnswer::Padded => EmdfError::ValueOverflow,
+        PaddingAnswer::Refused(why) => why,
+    }
+}
+
+// What follows the payloads: protection, and padding to the end.
+fn container_end(s: &[u8], c: BitCursor, key: u64, count: usize) -> ContainerAnswer
+    ensures { λ r. ⌜ ((xs : List Found) → length xs ≡ count → r ≡ containerAnswer (c .end) (containerEnd key xs (now (s .entry)) (c .end) (c .position))) ⌝ }
+{
+    let a1 = read_bits(s, c, 2);
+    let FieldAnswer::Value(primary_code, c1) = a1 else {
+        return ContainerAnswer::Refused(field_error(a1));
+    };
+    let a2 = read_bits(s, c1, 2);
+    let FieldAnswer::Value(secondary_code, c2) = a2 else {
+        return ContainerAnswer::Refused(field_error(a2));
+    };
+    if primary_code == 0 {
+        return ContainerAnswer::Refused(EmdfError::ReservedPrimaryProtectionLength);
+    }
+    let a3 = protection_bytes(s, c2, protection_length(primary_code));
+    let BytesAnswer::Bytes(primary, c3) = a3 else {
+        return ContainerAnswer::Refused(bytes_error(a3));
+    };
+    let a4 = protection_bytes(s, c3, protection_length(secondary_code));
+    let BytesAnswer::Bytes(secondary, c4) = a4 else {
+        return ContainerAnswer::Refused(bytes_error(a4));
+    };
+    let a5 = check_padding(s, c4);
+    let PaddingAnswer::Padded = a5 else {
+        return ContainerAnswer::Refused(padding_error(a5));
+    };
+    let protection = EmdfProtection { primary, secondary };
+    ContainerAnswer::Container(EmdfContainer {
+        key_id: key,
+        payloads: count,
+        protection,
+    })
+}
+
+// A container, to the cursor's end.
+fn parse_container(s: &[u8], c: BitCursor) -> ContainerAnswer
+    ensures { λ r. ⌜ r ≡ containerAnswer (c .end) (container (now (s .entry)) (c .end) (c .position)) ⌝ }
+{
+    let a1 = extended_value(s, c, 3, 2);
+    let FieldAnswer::Value(version, c1) = a1 else {
+        return ContainerAnswer::Refused(field_error(a1));
+    };
+    if version != 0 {
+        return ContainerAnswer::Refused(EmdfError::UnsupportedVersion { version });
+    }
+    let a2 = extended_value(s, c1, 7, 3);
+    let FieldAnswer::Value(key, c2) = a2 else {
+        return ContainerAnswer::Refused(field_error(a2));
+    };
+    let a3 = count_payloads(s, c2);
+    let CountAnswer::Counted(count, c3) = a3 else {
+        return ContainerAnswer::Refused(count_error(a3));
+    };
+    container_end(s, c3, key, count)
 }

@@ -251,7 +251,7 @@ fn forged_cursors(
 }
 
 /// Cursors with their end past the slice or their position past the end.
-fn forged(size: usize) -> impl Iterator<Item = Cursor> {
+pub fn forged(size: usize) -> impl Iterator<Item = Cursor> {
     let bits = 8 * size;
     let near = (0..=9).chain(bits.saturating_sub(9).max(10)..=bits + 17);
     let far = [1 << 32, 1 << 61, 1 << 63, usize::MAX - 8];

@@ -1,15 +1,21 @@
-//! One bit call with its arguments, and the answer in the library's own figures.
+//! One call with its arguments, and the answer in the library's own figures.
 
 use std::fmt;
 
 pub const ACCEPTED: u32 = 0;
 pub const TOO_FEW_BITS: u32 = 3;
 pub const WIDTH_TOO_LARGE: u32 = 4;
+pub const INVALID_BOUNDS: u32 = 5;
+pub const TOO_MANY_GROUPS: u32 = 6;
+pub const VALUE_TOO_LARGE: u32 = 7;
 
 /// The widest read.
 pub const MAX_WIDTH: usize = 64;
 
-/// The exported bit calls; the discriminant is the call's number in the list.
+/// The widest group of a variable field.
+pub const MAX_FIELD_WIDTH: u8 = 63;
+
+/// The exported calls; the discriminant of a bit call is its number in the list.
 #[derive(Clone, Copy, Debug, Eq, PartialEq)]
 pub enum Call {
     BitCursor = 0,
@@ -18,6 +24,7 @@ pub enum Call {
     ReadBit = 3,
     TakeBits = 4,
     ByteAlign = 5,
+    VariableBits = 6,
 }
 
 impl Call {
@@ -30,6 +37,7 @@ impl Call {
             Self::ReadBit => "read_bit",
             Self::TakeBits => "take_bits",
             Self::ByteAlign => "byte_align",
+            Self::VariableBits => "variable_bits",
         }
     }
 }
@@ -59,8 +67,10 @@ impl Cursor {
 pub struct Request {
     pub call: Call,
     pub cursor: Cursor,
-    /// The width of `read_bits` or the count of `take_bits`.
+    /// The width of `read_bits` and `variable_bits`, or the count of `take_bits`.
     pub argument: usize,
+    /// The groups that `variable_bits` allows.
+    pub limit: u8,
 }
 
 impl Request {
@@ -70,7 +80,27 @@ impl Request {
             call,
             cursor,
             argument,
+            limit: 0,
         }
+    }
+
+    /// A variable field of groups of `width` bits each.
+    #[must_use]
+    pub fn field(cursor: Cursor, width: u8, limit: u8) -> Self {
+        Self {
+            limit,
+            ..Self::new(Call::VariableBits, cursor, usize::from(width))
+        }
+    }
+
+    /// The argument where it is a width.
+    ///
+    /// # Panics
+    ///
+    /// On a width above 255, which neither side's parameter can hold.
+    #[must_use]
+    pub fn width(&self) -> u8 {
+        u8::try_from(self.argument).expect("a width is a byte")
     }
 
     /// The call that makes a cursor from a slice alone.
@@ -106,6 +136,21 @@ impl Answer {
     #[must_use]
     pub fn width_too_large(width: usize, cursor: Cursor) -> Self {
         Self::refused(WIDTH_TOO_LARGE, [width, 0], cursor)
+    }
+
+    #[must_use]
+    pub fn invalid_bounds(width: u8, limit: u8, cursor: Cursor) -> Self {
+        Self::refused(INVALID_BOUNDS, [width, limit].map(usize::from), cursor)
+    }
+
+    #[must_use]
+    pub fn too_many_groups(width: u8, limit: u8, after: Cursor) -> Self {
+        Self::refused(TOO_MANY_GROUPS, [width, limit].map(usize::from), after)
+    }
+
+    #[must_use]
+    pub fn value_too_large(after: Cursor) -> Self {
+        Self::refused(VALUE_TOO_LARGE, [0, 0], after)
     }
 
     /// The cursor after the call.
@@ -169,6 +214,7 @@ impl fmt::Display for Described<'_> {
             call,
             cursor,
             argument,
+            limit,
         } = self.request;
         writeln!(formatter, "  call      emdf_{}", call.name())?;
         write!(formatter, "  bytes     {} in all:", self.bytes.len())?;
@@ -178,7 +224,11 @@ impl fmt::Display for Described<'_> {
         writeln!(formatter)?;
         writeln!(formatter, "  position  {}", cursor.position)?;
         writeln!(formatter, "  end       {}", cursor.end)?;
-        writeln!(formatter, "  argument  {argument}")
+        writeln!(formatter, "  argument  {argument}")?;
+        if call == Call::VariableBits {
+            writeln!(formatter, "  limit     {limit}")?;
+        }
+        Ok(())
     }
 }
 

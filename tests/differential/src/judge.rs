@@ -32,6 +32,30 @@ impl<'a> Subject<'a> {
         self.compare(request, expected(self.bytes, request), tally)
     }
 
+    /// One call on its own, to which a rule outside both sides gives the answer too.
+    ///
+    /// # Errors
+    ///
+    /// Where the library's answer is not the expected one, or both break the rule.
+    pub fn check_with_rule(
+        &self,
+        request: Request,
+        ruled: Answer,
+        tally: &mut Tally,
+    ) -> Result<(), Difference> {
+        let answer = self.check(request, tally)?;
+        if answer == ruled {
+            return Ok(());
+        }
+        let case = Described {
+            bytes: self.bytes,
+            request,
+        };
+        let said = format!("  rule      {ruled}\n  both      {answer}\n");
+        let heading = "both sides agree, but not with the rule:";
+        Err(Difference(format!("{heading}\n{case}{said}")))
+    }
+
     /// The library's answer, where it is the expected one in every figure.
     fn compare(
         &self,
@@ -86,7 +110,7 @@ impl<'a> Lockstep<'a> {
         tally: &mut Tally,
     ) -> Result<(Answer, Option<Self>), Difference> {
         let request = Request::new(call, self.library, argument);
-        let (expected, window) = self.rust.call(call, argument);
+        let (expected, window) = self.rust.call(request);
         let answer = self.subject.compare(request, expected, tally)?;
         self.library = answer.cursor();
         let window = window.map(|rust| Self {

@@ -48,6 +48,15 @@ extern "C" {
         end: usize,
         answer: *mut u8,
     ) -> u32;
+    fn emdf_variable_bits(
+        bytes: *const u8,
+        length: usize,
+        position: usize,
+        end: usize,
+        width: u8,
+        limit: u8,
+        answer: *mut u8,
+    ) -> u32;
 }
 
 /// The place for an answer, at an odd address, between bytes that must stay.
@@ -126,13 +135,14 @@ fn call(bytes: &[u8], request: Request, answer: *mut u8) -> u32 {
         match request.call {
             Call::BitCursor => emdf_bit_cursor(start, length, answer),
             Call::BitsRemaining => emdf_bits_remaining(start, length, position, end, answer),
-            Call::ReadBits => {
-                let width = u8::try_from(argument).expect("a width is a byte");
-                emdf_read_bits(start, length, position, end, width, answer)
-            }
+            Call::ReadBits => emdf_read_bits(start, length, position, end, request.width(), answer),
             Call::ReadBit => emdf_read_bit(start, length, position, end, answer),
             Call::TakeBits => emdf_take_bits(start, length, position, end, argument, answer),
             Call::ByteAlign => emdf_byte_align(start, length, position, end, answer),
+            Call::VariableBits => {
+                let (width, limit) = (request.width(), request.limit);
+                emdf_variable_bits(start, length, position, end, width, limit, answer)
+            }
         }
     }
 }

@@ -2,12 +2,14 @@
 
 mod bits;
 mod crash;
+mod fields;
 mod guard;
 mod judge;
 mod library;
 mod model;
 mod report;
 mod shrink;
+mod written;
 
 use differential::options::Options;
 use differential::random::Random;
@@ -15,7 +17,7 @@ use report::{Group, Tally};
 use std::process::ExitCode;
 
 /// Each part's groups, run in this order.
-const PARTS: [&[Group]; 1] = [&bits::GROUPS];
+const PARTS: [&[Group]; 2] = [&bits::GROUPS, &fields::GROUPS];
 
 fn main() -> ExitCode {
     let options = match Options::parse(std::env::args().skip(1)) {

@@ -1,6 +1,6 @@
 //! The answers to forged cursors, which the original can't be asked: 0 bits are left.
 
-use differential::case::{Answer, Call, Cursor, Request, MAX_WIDTH};
+use differential::case::{Answer, Call, Cursor, Request, MAX_FIELD_WIDTH, MAX_WIDTH};
 
 /// # Panics
 ///
@@ -11,6 +11,7 @@ pub fn forged(request: Request) -> Answer {
         call,
         cursor,
         argument,
+        limit,
     } = request;
     match call {
         Call::BitCursor => unreachable!("takes no cursor"),
@@ -26,6 +27,10 @@ pub fn forged(request: Request) -> Answer {
             let to_the_edge = (8 - cursor.position % 8) % 8;
             needing(to_the_edge, cursor, Answer::accepted(0, cursor))
         }
+        Call::VariableBits => match request.width() {
+            1..=MAX_FIELD_WIDTH if limit > 0 => Answer::too_few_bits(argument, 0, cursor),
+            width => Answer::invalid_bounds(width, limit, cursor),
+        },
     }
 }
 

@@ -2,6 +2,7 @@
 
 use crate::case::{Answer, Call, Cursor, Request};
 use openjoc_bitio::{BitError, BitRead, BitReader};
+use openjoc_emdf::EmdfError;
 
 /// The original's reader with its end, which the original does not show.
 pub struct Reader<'a> {
@@ -45,22 +46,21 @@ impl<'a> Reader<'a> {
         self.bits.bits_remaining()
     }
 
-    /// Any call on the reader, with the window where `take_bits` made one.
+    /// What is requested, but from where the reader stands, with the window where
+    /// `take_bits` made one.
     ///
     /// # Panics
     ///
     /// On a width above 255, which the original's parameter can't hold.
-    pub fn call(&mut self, call: Call, argument: usize) -> (Answer, Option<Self>) {
-        let result = match call {
+    pub fn call(&mut self, request: Request) -> (Answer, Option<Self>) {
+        let result = match request.call {
             Call::BitCursor => Ok(0),
             Call::BitsRemaining => Ok(self.bits.bits_remaining() as u64),
-            Call::ReadBits => {
-                let width = u8::try_from(argument).expect("a width is a byte");
-                self.bits.read_bits(width)
-            }
+            Call::ReadBits => self.bits.read_bits(request.width()),
             Call::ReadBit => self.bits.read_bit().map(u64::from),
-            Call::TakeBits => return self.take_bits(argument),
+            Call::TakeBits => return self.take_bits(request.argument),
             Call::ByteAlign => self.bits.byte_align().map(|()| 0),
+            Call::VariableBits => return (self.field(request.width(), request.limit), None),
         };
         let answer = match result {
             Ok(value) => Answer::accepted(value, self.cursor()),
@@ -80,6 +80,21 @@ impl<'a> Reader<'a> {
                 (Answer::window(after, window.cursor()), Some(window))
             }
             Err(error) => (self.refusal(error), None),
+        }
+    }
+
+    fn field(&mut self, width: u8, limit: u8) -> Answer {
+        match openjoc_emdf::variable_bits(&mut self.bits, width, limit) {
+            Ok(value) => Answer::accepted(value, self.cursor()),
+            Err(EmdfError::Bit(error)) => self.refusal(error),
+            Err(EmdfError::InvalidVariableBits { width, max_groups }) => {
+                Answer::invalid_bounds(width, max_groups, self.cursor())
+            }
+            Err(EmdfError::VariableBitsGroupLimit { width, limit }) => {
+                Answer::too_many_groups(width, limit, self.cursor())
+            }
+            Err(EmdfError::ValueOverflow) => Answer::value_too_large(self.cursor()),
+            Err(error) => unreachable!("not a field's refusal: {error}"),
         }
     }
 
@@ -104,5 +119,5 @@ pub fn answer(bytes: &[u8], request: Request) -> Answer {
         Call::BitCursor => Reader::new(bytes),
         _ => Reader::at(bytes, request.cursor),
     };
-    reader.call(request.call, request.argument).0
+    reader.call(request).0
 }

@@ -41,7 +41,8 @@ pub fn smaller_cases(case: &Case) -> Smaller<'_, Case> {
             .chain(cut_with_the_argument(case))
             .chain(zeroed(case))
             .chain(cleared(case))
-            .chain(smaller_numbers(case)),
+            .chain(smaller_numbers(case))
+            .chain(smaller_limits(case)),
     )
 }
 
@@ -115,11 +116,8 @@ fn cleared(case: &Case) -> impl Iterator<Item = Case> + '_ {
 
 /// Each number alone, and those pairs that have to fall together.
 fn smaller_numbers(case: &Case) -> impl Iterator<Item = Case> + '_ {
-    let Request {
-        call,
-        cursor: Cursor { position, end },
-        argument,
-    } = case.request;
+    let Cursor { position, end } = case.request.cursor;
+    let argument = case.request.argument;
     let moved = amounts(position.min(end)).map(move |by| (position - by, end - by, argument));
     let narrowed = amounts(end.min(argument)).map(move |by| (position, end - by, argument - by));
     let ends = amounts(end).map(move |by| (position, end - by, argument));
@@ -132,7 +130,22 @@ fn smaller_numbers(case: &Case) -> impl Iterator<Item = Case> + '_ {
         .chain(arguments);
     numbers.map(move |(position, end, argument)| Case {
         bytes: case.bytes.clone(),
-        request: Request::new(call, Cursor::new(position, end), argument),
+        request: Request {
+            cursor: Cursor::new(position, end),
+            argument,
+            ..case.request
+        },
+    })
+}
+
+/// Fewer groups of a field.
+fn smaller_limits(case: &Case) -> impl Iterator<Item = Case> + '_ {
+    (0..case.request.limit).map(|limit| Case {
+        bytes: case.bytes.clone(),
+        request: Request {
+            limit,
+            ..case.request
+        },
     })
 }
 
