@@ -34,7 +34,7 @@ unique (cons {bs = xs} l b h) (cons {b = b′} {bs = ys} l′ c k) = rw (← b, 
 
 -- ---- a byte's bits
 
-byte-value : (s : List ℕ) (i : ℕ) → getD s i 0 < 256 → bitsValue s (8 * i) 8 ≡ getD s i 0
+pub byte-value : (s : List ℕ) (i : ℕ) → getD s i 0 < 256 → bitsValue s (8 * i) 8 ≡ getD s i 0
 byte-value s i h =
     let d : 8 * i / 8 ≡ i = omega arith in
     value-octet s (8 * i) 8 0 (omega arith) ∙ rw (d, div-one) (mod-eq-of-lt h)

@@ -3,3 +3,4 @@ pub mod Variable
 pub mod Turns
 pub mod Octets
 pub mod Ends
+pub mod Header

@@ -1,6 +1,6 @@
 -- Octets that stand at a position, as numbers. Assumes nothing.
 use mathlib.Core.Path.{_≡_, refl, sym, ap, _∙_}
-use mathlib.Core.List.{List, [], _∷_, _++_}
+use mathlib.Core.List.{List}
 use Prim.Native.Nat.{ℕ, zero, suc, _+_, _-_, _*_, _%_, _≤_, _<_}
 use native.Mathlib.Omega.{arith}
 use native.Mathlib.Nat.{add-zero, le-refl}
@@ -19,7 +19,7 @@ use Rattle.openjoc_bitio.specs.declared.BitCursor.{BitCursor}
 use Rattle.openjoc_bitio.proofs.Bits.{value-none, value-split}
 use Rattle.emdf_format.specs.Calls.{octetsAt}
 use Rattle.emdf_format.specs.Contents.{protectionLength}
-use Rattle.emdf_format.specs.Reader.{got, refused, _>>=_, ask, cursorAt, remaining, bits, octets}
+use Rattle.emdf_format.specs.Reader.{got, refused, ask, cursorAt, remaining, bits, octets}
 use Rattle.emdf_format.specs.Reading.{padding}
 use Rattle.emdf_format.specs.declared.EmdfError.the-variants.{Bit, ExcessPadding, NonzeroPadding}
 use Rattle.emdf_format.proofs.Standing.{bitLimit, remaining-limit, T-of, T-not-of, bind-go, ask-go, ask-refuses, ask-fine}

@@ -7,8 +7,8 @@ use native.Mathlib.Nat.{add-zero}
 use lib.ListN.{length}
 use Rattle.openjoc_bitio.specs.Cursor.{bitsRemaining}
 use Rattle.openjoc_bitio.specs.declared.BitCursor.{BitCursor}
-use Rattle.emdf_format.specs.Reader.{Read, got, refused, Reader, andThen, _>>=_, give, choose, cursorAt, position, extendedValue}
-use Rattle.emdf_format.specs.Reading.{Found as Payload, payloadAfter, payloads}
+use Rattle.emdf_format.specs.Reader.{Read, got, refused, Reader, andThen, _>>=_, give, cursorAt, position}
+use Rattle.emdf_format.specs.Reading.{Found as Payload, payloads}
 use Rattle.emdf_format.specs.declared.EmdfError.{EmdfError}
 use Rattle.emdf_format.specs.declared.PayloadRecord.{PayloadRecord}
 use Rattle.emdf_format.proofs.Standing.{bitLimit, remaining-limit, taken, chosen, bind-inv, bind-go, bind-no, bind-assoc, bind-same, choose-inv, choose-bind, choose-same, give-inv, give-bind, stands-in}

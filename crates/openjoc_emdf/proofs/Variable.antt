@@ -1,5 +1,5 @@
 -- Laws of one group of a variable field, and of the loop over groups. Assumes nothing.
-use mathlib.Core.Path.{_≡_, refl, sym, ap, _∙_}
+use mathlib.Core.Path.{_≡_, refl, sym, _∙_}
 use mathlib.Core.Bool.{Bool, true, false, not}
 use mathlib.Core.List.{List}
 use Prim.Native.Nat.{ℕ, zero, suc, _+_, _-_, _*_, _/_, _^_, _≤_, _<_}
@@ -9,7 +9,7 @@ use lib.Pow.{pow-pos}
 use lib.Dec.{T, ltb, ltb→lt}
 use Rattle.openjoc_bitio.specs.Choice.{if_then_else_}
 use Rattle.openjoc_bitio.specs.declared.BitCursor.{BitCursor}
-use Rattle.emdf_format.specs.Reader.{Read, got, refused, Reader, _>>=_, give, ask, choose, andThen, bits, groupsFrom, cursorAt}
+use Rattle.emdf_format.specs.Reader.{Read, got, refused, Reader, _>>=_, give, groupsFrom, cursorAt}
 use Rattle.emdf_format.specs.declared.EmdfError.{EmdfError}
 use Rattle.emdf_format.proofs.Standing.{T-of, T-not-of, taken, asked, chosen, bind-inv, ask-inv, choose-inv, give-inv, bind-go, bind-no, bind-assoc, bind-same, choose-bind, choose-same, give-bind}
 use Rattle.openjoc_emdf.specs.Answers.{Group, last, more, oneGroup, fieldAnswer, groupAnswer, groupFound, refusedGroup, startAnswer}

@@ -1,5 +1,4 @@
 -- The calls' answers, by what the definitions of emdf_format find: e is the end of the cursor that was handed in. Assumes nothing.
-use mathlib.Core.Bool.{Bool, true, false}
 use mathlib.Core.List.{List, [], _∷_}
 use Prim.Native.Nat.{ℕ, _+_, _-_, _*_, _^_}
 use lib.ListN.{length, take, drop}
@@ -9,7 +8,8 @@ use Rattle.openjoc_bitio.specs.Bits.{bitsValue}
 use Rattle.openjoc_bitio.specs.Cursor.{bitsRemaining}
 use Rattle.openjoc_bitio.specs.declared.BitCursor.{BitCursor}
 use Rattle.emdf_format.specs.Reader.{Read, got, refused, Reader, _>>=_, give, ask, choose, cursorAt, position, bits, extendedValue}
-use Rattle.emdf_format.specs.Reading.{Found, payloadAfter, Container}
+use Rattle.emdf_format.specs.Reading.{Found, payloadAfter, Container, Reading, accepted, refusal}
+use Rattle.emdf_format.specs.Calls.{Class, nonEmdf, parsed, trailingData, malformed}
 use Rattle.emdf_format.specs.declared.Optional.{Optional}
 use Rattle.emdf_format.specs.declared.EmdfPayloadConfig.{EmdfPayloadConfig}
 use Rattle.emdf_format.specs.declared.EmdfError.{EmdfError}
@@ -34,6 +34,10 @@ use Rattle.openjoc_emdf.specs.declared.PaddingAnswer.the-variants as Pad
 use Rattle.openjoc_emdf.specs.declared.EmdfContainer.{EmdfContainer}
 use Rattle.openjoc_emdf.specs.declared.ContainerAnswer.{ContainerAnswer}
 use Rattle.openjoc_emdf.specs.declared.ContainerAnswer.the-variants as ContainerAnswer
+use Rattle.openjoc_emdf.specs.declared.ParseAnswer.{ParseAnswer}
+use Rattle.openjoc_emdf.specs.declared.ParseAnswer.the-variants as ParseAnswer
+use Rattle.openjoc_emdf.specs.declared.CarrierClassification.{CarrierClassification}
+use Rattle.openjoc_emdf.specs.declared.CarrierClassification.the-variants as CarrierClassification
 use Rattle.openjoc_emdf.specs.declared.GroupAnswer.{GroupAnswer}
 use Rattle.openjoc_emdf.specs.declared.GroupAnswer.the-variants as GroupAnswer
 use Rattle.openjoc_emdf.specs.declared.StartAnswer.{StartAnswer}
@@ -125,6 +129,28 @@ containerOf c = record {
 unfoldable pub containerAnswer : ℕ → Read Container → ContainerAnswer
 containerAnswer e (got c q) = ContainerAnswer.Container (containerOf c)
 containerAnswer e (refused why q) = ContainerAnswer.Refused why
+
+-- ---- the carrier, and its class
+
+unfoldable pub parsedOf : ContainerAnswer → ℕ → ParseAnswer
+parsedOf (ContainerAnswer.Container c) n = ParseAnswer.Parsed (record { container = c; «bytes_consumed» = record { 0 = n } })
+parsedOf (ContainerAnswer.Refused why) n = ParseAnswer.Refused why
+
+unfoldable pub parseAnswer : Reading → ParseAnswer
+parseAnswer (accepted n c) = ParseAnswer.Parsed (record { container = containerOf c; «bytes_consumed» = record { 0 = n } })
+parseAnswer (refusal why) = ParseAnswer.Refused why
+
+unfoldable pub classAnswer : Class → CarrierClassification
+classAnswer nonEmdf = CarrierClassification.NonEmdf
+classAnswer (parsed n c) = CarrierClassification.Parsed (record { container = containerOf c; «bytes_consumed» = record { 0 = n } })
+classAnswer (trailingData n len) = CarrierClassification.TrailingData (record { 0 = n }) (record { 0 = len })
+classAnswer (malformed why) = CarrierClassification.Malformed why
+
+-- a reading's answer, as the class of so many bytes that start with the sync word
+unfoldable pub classifiedOf : ParseAnswer → ℕ → CarrierClassification
+classifiedOf (ParseAnswer.Parsed p) len =
+    if eqb (p .«bytes_consumed» .0) len then CarrierClassification.Parsed p else CarrierClassification.TrailingData (record { 0 = p .«bytes_consumed» .0 }) (record { 0 = len })
+classifiedOf (ParseAnswer.Refused why) len = CarrierClassification.Malformed why
 
 -- ---- why an answer is refused: only refusals are asked
 

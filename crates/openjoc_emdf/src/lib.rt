@@ -4,12 +4,13 @@ ghost use Prim.Native.Nat.{_+_, _-_, _*_, _^_, _≤_, _<_};
 ghost use Rattle.emdf_format.specs.Syntax.{escape as ones};
 ghost use Rattle.emdf_format.specs.Contents.{isPresent, isOne, hasAligned, hasPriority, protectionLength};
 ghost use Rattle.emdf_format.specs.Reader.{bits, groupsFrom, variableBits, extendedValue, octets, present, flagged};
-ghost use Rattle.emdf_format.specs.Reading.{sampleOffset, codecData, configControls, payloadConfig, traceOf, Found, payloadAfter, payloads, padding, containerEnd, container};
+ghost use Rattle.emdf_format.specs.Reading.{sampleOffset, codecData, configControls, payloadConfig, traceOf, Found, payloadAfter, payloads, padding, containerEnd, container, reading};
+ghost use Rattle.emdf_format.specs.Calls.{classify};
 ghost use Prim.Native.Nat.{ℕ};
 ghost use mathlib.Core.List.{List};
 ghost use lib.ListN.{length};
 ghost use Rattle.openjoc_bitio.specs.Cursor.{bitsRemaining};
-ghost use Rattle.openjoc_emdf.specs.Answers.{fieldAnswer, groupAnswer, startAnswer, refusedGroup, oneGroup, optionalAnswer, configAnswer, cursorAnswer, payloadAnswer, turnAnswer, nextPayload, countFrom, bytesAnswer, valueThere, paddingAnswer, containerAnswer, countError, bytesError, paddingError, fieldError, optionalError, configError, cursorError};
+ghost use Rattle.openjoc_emdf.specs.Answers.{fieldAnswer, groupAnswer, startAnswer, refusedGroup, oneGroup, optionalAnswer, configAnswer, cursorAnswer, payloadAnswer, turnAnswer, nextPayload, countFrom, bytesAnswer, valueThere, paddingAnswer, containerAnswer, parseAnswer, parsedOf, classAnswer, classifiedOf, countError, bytesError, paddingError, fieldError, optionalError, configError, cursorError};
 use emdf_format::EmdfError;
 use emdf_format::EmdfPayloadBitTrace;
 use emdf_format::EmdfPayloadConfig;
@@ -18,6 +19,7 @@ use emdf_format::MAX_EXTENDED_GROUPS;
 use emdf_format::MAX_SIZE_GROUPS;
 use emdf_format::Optional;
 use emdf_format::PayloadRecord;
+use emdf_format::SYNCWORD;
 use openjoc_bitio::BitCursor;
 use openjoc_bitio::BitError;
 use openjoc_bitio::BitOffset;
@@ -732,4 +734,86 @@ fn parse_container(s: &[u8], c: BitCursor) -> ContainerAnswer
         return ContainerAnswer::Refused(count_error(a3));
     };
     container_end(s, c3, key, count)
+}
+
+// Reads the carrier at the start of bytes; what follows it is not looked at.
+pub fn parse_emdf_sync(bytes: &[u8]) -> ParseAnswer
+    ensures { λ r. ⌜ r ≡ parseAnswer (reading (now (bytes .entry))) ⌝ }
+{
+    let length = bytes.len();
+    if length < 4 {
+        return ParseAnswer::Refused(EmdfError::TruncatedContainer {
+            declared: 4,
+            available: length,
+        });
+    }
+    let sync = big_endian(bytes[0], bytes[1]);
+    if sync != SYNCWORD {
+        return ParseAnswer::Refused(EmdfError::InvalidSyncword { actual: sync });
+    }
+    let declared = big_endian(bytes[2], bytes[3]) as usize;
+    let available = length - 4;
+    if available < declared {
+        return ParseAnswer::Refused(EmdfError::TruncatedContainer {
+            declared,
+            available,
+        });
+    }
+    let n = 4 + declared;
+    let whole = BitCursor {
+        position: 32,
+        end: n * 8,
+    };
+    parsed(parse_container(&bytes[..n], whole), n)
+}
+
+fn parsed(answer: ContainerAnswer, n: usize) -> ParseAnswer
+    ensures { λ r. ⌜ r ≡ parsedOf answer n ⌝ }
+{
+    match answer {
+        ContainerAnswer::Container(container) => ParseAnswer::Parsed(ParsedEmdf {
+            container,
+            bytes_consumed: ByteCount(n),
+        }),
+        ContainerAnswer::Refused(why) => ParseAnswer::Refused(why),
+    }
+}
+
+// Two bytes as a number, the first the most significant.
+fn big_endian(a: u8, b: u8) -> u16
+    ensures { λ r. ⌜ r ≡ a * 256 + b ⌝ }
+{
+    (a as u16) * 256 + b as u16
+}
+
+// What a range of bytes is. It never looks for a sync word but at its start.
+pub fn classify_emdf_carrier(bytes: &[u8]) -> CarrierClassification
+    ensures { λ r. ⌜ r ≡ classAnswer (classify (now (bytes .entry))) ⌝ }
+{
+    let length = bytes.len();
+    if length < 2 {
+        return CarrierClassification::NonEmdf;
+    }
+    if big_endian(bytes[0], bytes[1]) != SYNCWORD {
+        return CarrierClassification::NonEmdf;
+    }
+    classified(parse_emdf_sync(bytes), length)
+}
+
+fn classified(answer: ParseAnswer, length: usize) -> CarrierClassification
+    ensures { λ r. ⌜ r ≡ classifiedOf answer length ⌝ }
+{
+    match answer {
+        ParseAnswer::Parsed(parsed) => {
+            let n = parsed.bytes_consumed.0;
+            if n == length {
+                return CarrierClassification::Parsed(parsed);
+            }
+            CarrierClassification::TrailingData {
+                container_bytes: ByteCount(n),
+                carrier_bytes: ByteCount(length),
+            }
+        }
+        ParseAnswer::Refused(why) => CarrierClassification::Malformed(why),
+    }
 }

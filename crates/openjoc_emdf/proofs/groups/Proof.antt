@@ -2,7 +2,6 @@ use borrow.Author.Needs.{needs}
 use Prim.Native.Nat.{_<_}
 use mathlib.Core.Path.{_≡_, refl, sym, _∙_}
 use native.Mathlib.Omega.{arith}
-use denote.Ref.{now}
 use Rattle.emdf_format.specs.Reader.{groupsFrom}
 use Rattle.openjoc_emdf.specs.Answers.{fieldAnswer}
 use Rattle.openjoc_emdf.proofs.Variable.{at-last, at-refused, at-more, more-left}

@@ -1,5 +1,5 @@
 use borrow.Author.Needs.{needs}
-use mathlib.Core.Path.{refl, sym, _∙_}
+use mathlib.Core.Path.{sym, _∙_}
 use Rattle.openjoc_emdf.specs.Answers.{configAnswer}
 use Rattle.openjoc_emdf.specs.declared.ConfigAnswer.the-variants.{Refused}
 use Rattle.emdf_format.specs.Reading.{payloadConfig}

@@ -1,7 +1,6 @@
 use borrow.Author.Needs.{needs}
 use mathlib.Core.Path.{refl, sym, _∙_}
-use borrow.Author.Tests.{eq-eqb, ne-eqb}
-use Rattle.emdf_format.proofs.Standing.{T-of, T-not-of}
+use Rattle.emdf_format.proofs.Standing.{T-of}
 use Rattle.emdf_format.specs.Reader.{present, give}
 use Rattle.openjoc_emdf.specs.Answers.{optionalAnswer}
 use Rattle.openjoc_emdf.specs.declared.OptionalAnswer.the-variants.{Refused}

@@ -1,4 +1,3 @@
-use mathlib.Core.Path.{refl}
 use Rattle.emdf_format.specs.Contents.{protectionLength}
 use Rattle.openjoc_emdf.proofs.Octets.{protection-long}
 use Rattle.openjoc_emdf.proofs.protection_length.Statement.{statement}

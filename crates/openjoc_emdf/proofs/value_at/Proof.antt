@@ -1,6 +1,5 @@
 use borrow.Author.Needs.{needs}
 use mathlib.Core.Path.{sym, _∙_}
-use native.Mathlib.Omega.{arith}
 use Rattle.openjoc_emdf.proofs.Octets.{value-read, value-unread}
 use Rattle.openjoc_emdf.proofs.value_at.Statement.{statement}
 use Rattle.openjoc_emdf.proofs.value_at.Tie as tie

@@ -7,7 +7,7 @@ use Prim.Native.Nat.{_≤_, _<_}
 use lib.Dec.{leb}
 use Rattle.emdf_format.specs.Contents.{_&_}
 use Rattle.emdf_format.specs.Reader.{variableBits}
-use Rattle.emdf_format.proofs.Standing.{T-of, T-not-of, and}
+use Rattle.emdf_format.proofs.Standing.{T-of, T-not-of}
 use Rattle.openjoc_emdf.specs.Answers.{fieldAnswer}
 use Rattle.openjoc_emdf.proofs.Answers.{yes, no-more}
 use Rattle.openjoc_emdf.proofs.variable_bits.Statement.{statement}
