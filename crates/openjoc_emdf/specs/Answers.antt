@@ -87,9 +87,6 @@ unfoldable pub countFrom : ℕ → ℕ → Read (List Found) → CountAnswer
 countFrom k e (got xs q) = CountAnswer.Counted (k + length xs) (cursorAt e q)
 countFrom k e (refused why q) = CountAnswer.Refused why
 
-abbrev pub countAnswer : ℕ → Read (List Found) → CountAnswer
-countAnswer = countFrom 0
-
 -- ---- protection and padding
 
 -- the number that bytes make, the first the most significant

@@ -6,7 +6,6 @@ ghost use Rattle.emdf_format.specs.Contents.{isPresent, isOne, hasAligned, hasP
 ghost use Rattle.emdf_format.specs.Reader.{bits, groupsFrom, variableBits, extendedValue, octets, present, flagged};
 ghost use Rattle.emdf_format.specs.Reading.{sampleOffset, codecData, configControls, payloadConfig, traceOf, Found, payloadAfter, payloads, padding, containerEnd, container, reading};
 ghost use Rattle.emdf_format.specs.Calls.{classify};
-ghost use Prim.Native.Nat.{ℕ};
 ghost use mathlib.Core.List.{List};
 ghost use lib.ListN.{length};
 ghost use Rattle.openjoc_bitio.specs.Cursor.{bitsRemaining};
