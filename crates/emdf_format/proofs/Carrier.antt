@@ -154,6 +154,10 @@ read-limit s n c h =
     let d = header s n c h in
     (d .there, limit-whole (take n s) n (length-take-le n s (d .there)) (omega (arith, d .size, value-range s 16 16)))
 
+-- and fit in 16 bits, with the 4 before them
+pub read-size : (s : List ℕ) (n : ℕ) (c : Container) → reading s ≡ accepted n c → n ≤ 65539
+read-size s n c h = omega (arith, header s n c h .size, value-range s 16 16)
+
 -- ---- B
 
 module _ (c : Contents) (rest : List ℕ) (fit : T (writable c)) (bytes : T (contentsAreBytes c)) (small : declared c ≤ 65535) where

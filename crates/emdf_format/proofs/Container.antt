@@ -125,6 +125,9 @@ pub record Contained (s : List ℕ) (e p q : ℕ) (c : Container) : Type 0 where
   pub codes-at : ℕ
   pub end : ℕ
   pub key : Stands s e p payloads-at (numberBits 2 0 ⨟ extendedField 3 (c .key-id))
+  pub key-read : extendedValue 3 s e (p + 2) ≡ got (c .key-id) payloads-at
+  pub bound : ℕ
+  pub list-read : payloads bound s e payloads-at ≡ got (c .found) codes-at
   pub listed : Listed s e payloads-at codes-at (c .found)
   pub protection : Stands s e codes-at end (protectionBits (c .primary) (c .secondary))
   pub pad : Padded s e end q
@@ -134,7 +137,7 @@ unfolding container containerEnd writable contentsAreBytes word protectionBits
 container-sound {s} {e} {p} {q} {c} h =
     step version-law (bind-inv h) λ version p₁ s₁ f₁ t₁.
     asked (ask-inv t₁) λ v₀ t₂.
-    step key-law (bind-inv t₂) λ key p₂ s₂ f₂ t₃.
+    taken (bind-inv t₂) λ key p₂ k t₃.
     taken (bind-inv t₃) λ n p₃ l t₄.
     taken (bind-inv t₄) λ xs p₄ r t₅.
     step (bits-law 2 (lit≤ tt)) (bind-inv t₅) λ a p₅ s₅ f₅ t₆.
@@ -144,12 +147,15 @@ container-sound {s} {e} {p} {q} {c} h =
     step (octets-law (protectionLength b)) (bind-inv t₉) λ secondary p₈ s₈ f₈ t₁₀.
     taken (bind-inv t₁₀) λ u p₉ g t₁₁.
     let d = give-inv t₁₁ in
+    let (s₂, f₂) = key-law .sound k in
     let x = payloads-sound n r in
     let w = encodable-to _ (x .fit) in
     let a₁ = protection-back a primary (ltb→lt a 4 f₅) f₇ in
     let b₁ = protection-back b secondary (ltb→lt b 4 f₆) f₈ in
     let s₁′ : Stands s e p p₁ (numberBits 2 0) = rw (eqb→eq version 0 v₀, version-zero) at s₁ in
     let s₂′ : Stands s e p₁ p₃ (extendedField 3 key) = rw (left-inv l .to) at s₂ in
+    let v : p₁ ≡ p + 2 = sym (rw length-number at (stands-to s₁′)) in
+    let k′ : extendedValue 3 s e (p + 2) ≡ got key p₃ = rw (v, left-inv l .to) at k in
     let s₅′ : Stands s e p₄ p₅ (numberBits 2 (protectionCode (length primary))) = rw (a₁ .code) s₅ in
     let s₆′ : Stands s e p₅ p₆ (numberBits 2 (protectionCode (length secondary))) = rw (b₁ .code) s₆ in
     let z : T (not (eqb (length primary) 0)) = ne→neqb (length primary) 0 (length-pos a (length primary) (a₁ .len) (neqb→ne a 0 a₀)) in
@@ -161,6 +167,9 @@ container-sound {s} {e} {p} {q} {c} h =
       codes-at = p₄;
       end = p₈;
       key = join s₁′ s₂′;
+      key-read = k′;
+      bound = n;
+      list-read = r;
       listed = x;
       protection = join s₅′ (join s₆′ (join s₇ s₈));
       pad = pad-sound g;

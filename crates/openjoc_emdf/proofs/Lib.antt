@@ -4,3 +4,4 @@ pub mod Turns
 pub mod Octets
 pub mod Ends
 pub mod Header
+pub mod Walk

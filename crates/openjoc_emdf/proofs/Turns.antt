@@ -45,7 +45,7 @@ refused-is e (got (found x) q) h = absurd (let w : _≡_ {A = ℕ} 0 1 = cc in o
 refused-is e (refused why′ q) {why} h = let a : why′ ≡ why = cc in (q, rw a)
 
 -- a payload takes bits, and they are there
-moves : (s : List ℕ) (e p q : ℕ) (x : Payload) → nextPayload s e p ≡ got (found x) q → (p < q) × (p < bitLimit s e)
+pub moves : (s : List ℕ) (e p q : ℕ) (x : Payload) → nextPayload s e p ≡ got (found x) q → (p < q) × (p < bitLimit s e)
 unfolding nextPayload
 moves s e p q x h =
     taken (bind-inv h) λ p₀ q₀ h₀ t₀.
@@ -63,11 +63,11 @@ moves s e p q x h =
 
 -- ---- the list is a turn, and then what it says
 
-unfoldable rest : ℕ → Turn → Reader (List Payload)
+unfoldable pub rest : ℕ → Turn → Reader (List Payload)
 rest n ended = give []
 rest n (found x) = payloads n >>= λ xs. give (x ∷ xs)
 
-payloads-turn : (n : ℕ) (s : List ℕ) (e p : ℕ) → payloads (suc n) s e p ≡ (nextPayload >>= rest n) s e p
+pub payloads-turn : (n : ℕ) (s : List ℕ) (e p : ℕ) → payloads (suc n) s e p ≡ (nextPayload >>= rest n) s e p
 unfolding payloads nextPayload rest
 payloads-turn n s e p =
     sym (bind-assoc _ _ (rest n) s e p

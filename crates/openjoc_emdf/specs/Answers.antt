@@ -34,8 +34,11 @@ use Rattle.openjoc_emdf.specs.declared.PaddingAnswer.the-variants as Pad
 use Rattle.openjoc_emdf.specs.declared.EmdfContainer.{EmdfContainer}
 use Rattle.openjoc_emdf.specs.declared.ContainerAnswer.{ContainerAnswer}
 use Rattle.openjoc_emdf.specs.declared.ContainerAnswer.the-variants as ContainerAnswer
+use Rattle.openjoc_emdf.specs.declared.ParsedEmdf.{ParsedEmdf}
 use Rattle.openjoc_emdf.specs.declared.ParseAnswer.{ParseAnswer}
 use Rattle.openjoc_emdf.specs.declared.ParseAnswer.the-variants as ParseAnswer
+use Rattle.openjoc_emdf.specs.declared.OpenAnswer.{OpenAnswer}
+use Rattle.openjoc_emdf.specs.declared.OpenAnswer.the-variants as OpenAnswer
 use Rattle.openjoc_emdf.specs.declared.CarrierClassification.{CarrierClassification}
 use Rattle.openjoc_emdf.specs.declared.CarrierClassification.the-variants as CarrierClassification
 use Rattle.openjoc_emdf.specs.declared.GroupAnswer.{GroupAnswer}
@@ -129,17 +132,32 @@ containerAnswer e (refused why q) = ContainerAnswer.Refused why
 
 -- ---- the carrier, and its class
 
+abbrev pub parsedEmdf : ℕ → Container → ParsedEmdf
+parsedEmdf n c = record { container = containerOf c; «bytes_consumed» = record { 0 = n } }
+
 unfoldable pub parsedOf : ContainerAnswer → ℕ → ParseAnswer
 parsedOf (ContainerAnswer.Container c) n = ParseAnswer.Parsed (record { container = c; «bytes_consumed» = record { 0 = n } })
 parsedOf (ContainerAnswer.Refused why) n = ParseAnswer.Refused why
 
 unfoldable pub parseAnswer : Reading → ParseAnswer
-parseAnswer (accepted n c) = ParseAnswer.Parsed (record { container = containerOf c; «bytes_consumed» = record { 0 = n } })
+parseAnswer (accepted n c) = ParseAnswer.Parsed (parsedEmdf n c)
 parseAnswer (refusal why) = ParseAnswer.Refused why
+
+unfoldable pub reachedBy : FieldAnswer → BitCursor
+reachedBy (FieldAnswer.Value v c) = c
+reachedBy (FieldAnswer.Refused why c) = c
+
+-- past the version, which is 0 and takes 2 bits, and past the key id, in a container of n bytes
+unfoldable pub firstPayload : ℕ → List ℕ → BitCursor
+firstPayload n s = reachedBy (fieldAnswer (n * 8) (extendedValue 3 (take n s) (n * 8) 34))
+
+unfoldable pub openAnswer : List ℕ → Reading → OpenAnswer
+openAnswer s (accepted n c) = OpenAnswer.Open (parsedEmdf n c) (firstPayload n s)
+openAnswer s (refusal why) = OpenAnswer.Refused why
 
 unfoldable pub classAnswer : Class → CarrierClassification
 classAnswer nonEmdf = CarrierClassification.NonEmdf
-classAnswer (parsed n c) = CarrierClassification.Parsed (record { container = containerOf c; «bytes_consumed» = record { 0 = n } })
+classAnswer (parsed n c) = CarrierClassification.Parsed (parsedEmdf n c)
 classAnswer (trailingData n len) = CarrierClassification.TrailingData (record { 0 = n }) (record { 0 = len })
 classAnswer (malformed why) = CarrierClassification.Malformed why
 
@@ -150,6 +168,10 @@ classifiedOf (ParseAnswer.Parsed p) len =
 classifiedOf (ParseAnswer.Refused why) len = CarrierClassification.Malformed why
 
 -- ---- why an answer is refused: only refusals are asked
+
+unfoldable pub parseError : ParseAnswer → EmdfError
+parseError (ParseAnswer.Parsed p) = ValueOverflow
+parseError (ParseAnswer.Refused why) = why
 
 unfoldable pub countError : CountAnswer → EmdfError
 countError (CountAnswer.Counted n c) = ValueOverflow

@@ -9,7 +9,7 @@ ghost use Rattle.emdf_format.specs.Calls.{classify};
 ghost use mathlib.Core.List.{List};
 ghost use lib.ListN.{length};
 ghost use Rattle.openjoc_bitio.specs.Cursor.{bitsRemaining};
-ghost use Rattle.openjoc_emdf.specs.Answers.{fieldAnswer, groupAnswer, startAnswer, refusedGroup, oneGroup, optionalAnswer, configAnswer, cursorAnswer, payloadAnswer, turnAnswer, nextPayload, countFrom, bytesAnswer, valueThere, paddingAnswer, containerAnswer, parseAnswer, parsedOf, classAnswer, classifiedOf, countError, bytesError, paddingError, fieldError, optionalError, configError, cursorError};
+ghost use Rattle.openjoc_emdf.specs.Answers.{fieldAnswer, groupAnswer, startAnswer, refusedGroup, oneGroup, optionalAnswer, configAnswer, cursorAnswer, payloadAnswer, turnAnswer, nextPayload, countFrom, bytesAnswer, valueThere, paddingAnswer, containerAnswer, parseAnswer, parsedOf, classAnswer, classifiedOf, reachedBy, firstPayload, openAnswer, parseError, countError, bytesError, paddingError, fieldError, optionalError, configError, cursorError};
 use emdf_format::EmdfError;
 use emdf_format::EmdfPayloadBitTrace;
 use emdf_format::EmdfPayloadConfig;
@@ -75,6 +75,12 @@ pub enum ParseAnswer {
     Refused(EmdfError),
 }
 
+// A carrier that is read, and the cursor at its first payload, which ends where the container does.
+pub enum OpenAnswer {
+    Open(ParsedEmdf, BitCursor),
+    Refused(EmdfError),
+}
+
 // What a range that may be a carrier is.
 pub enum CarrierClassification {
     // No sync word at its start.
@@ -115,7 +121,7 @@ enum CursorAnswer {
 }
 
 // What stands next in the list of payloads: a payload, or the id 0 that ends it.
-enum PayloadStep {
+pub enum PayloadStep {
     Payload(PayloadRecord, BitCursor),
     End(BitCursor),
     Refused(EmdfError),
@@ -548,7 +554,7 @@ fn bit_trace(id: usize, config: usize, size: usize, body: usize, end: usize) -> 
 }
 
 // The next payload, or the end of the list.
-fn next_payload(s: &[u8], c: BitCursor) -> PayloadStep
+pub fn next_payload(s: &[u8], c: BitCursor) -> PayloadStep
     ensures { λ r. ⌜ r ≡ turnAnswer (c .end) (nextPayload (now (s .entry)) (c .end) (c .position)) ⌝ }
 {
     let start = c.position;
@@ -775,6 +781,47 @@ fn parsed(answer: ContainerAnswer, n: usize) -> ParseAnswer
             bytes_consumed: ByteCount(n),
         }),
         ContainerAnswer::Refused(why) => ParseAnswer::Refused(why),
+    }
+}
+
+// Reads the carrier, for a caller who then goes through its payloads with next_payload.
+pub fn open_carrier(bytes: &[u8]) -> OpenAnswer
+    ensures { λ r. ⌜ r ≡ openAnswer (now (bytes .entry)) (reading (now (bytes .entry))) ⌝ }
+{
+    let a = parse_emdf_sync(bytes);
+    let ParseAnswer::Parsed(parsed) = a else {
+        return OpenAnswer::Refused(parse_error(a));
+    };
+    OpenAnswer::Open(parsed, first_payload(bytes, parsed.bytes_consumed.0))
+}
+
+// Past the version, which is 0 and takes 2 bits, and past the key id.
+fn first_payload(bytes: &[u8], n: usize) -> BitCursor
+    requires { ⌜ (n ≤ length (now bytes)) × (n * 8 < 2 ^ 64) ⌝ }
+    ensures { λ r. ⌜ r ≡ firstPayload n (now (bytes .entry)) ⌝ }
+{
+    let key = BitCursor {
+        position: 34,
+        end: n * 8,
+    };
+    reached(extended_value(&bytes[..n], key, 7, 3))
+}
+
+fn reached(a: FieldAnswer) -> BitCursor
+    ensures { λ r. ⌜ r ≡ reachedBy a ⌝ }
+{
+    match a {
+        FieldAnswer::Value(_, c) => c,
+        FieldAnswer::Refused(_, c) => c,
+    }
+}
+
+fn parse_error(a: ParseAnswer) -> EmdfError
+    ensures { λ r. ⌜ r ≡ parseError a ⌝ }
+{
+    match a {
+        ParseAnswer::Parsed(_) => EmdfError::ValueOverflow,
+        ParseAnswer::Refused(why) => why,
     }
 }
 
