@@ -29,6 +29,7 @@ pub record Listed (s : List ℕ) (c : BitCursor) (xs : List Found) : Type 0 wher
 pub record Stepped (s : List ℕ) (c : BitCursor) (x : Found) (xs : List Found) : Type 0 where
   pub next : BitCursor
   pub is : turnAnswer (c .end) (nextPayload s (c .end) (c .position)) ≡ PayloadStep.Payload (x .record-of) next
+  pub end : next .end ≡ c .end
   pub listed : Listed s next xs
   pub moves : c .position < next .position
 
@@ -54,7 +55,7 @@ module _ (s : List ℕ) (c : BitCursor) where
               let d = give-inv t₂ in
               let a : y ≡ x = cc (d .what) in
               let b : ys ≡ xs = cc (d .what) in
-              record { next = cursorAt e q; is = rw (h₁, a); listed = record { bound = n; to = q₂; is = rw b at h₂ }; moves = moves s e p q y h₁ .0 }
+              record { next = cursorAt e q; is = rw (h₁, a); end = refl; listed = record { bound = n; to = q₂; is = rw b at h₂ }; moves = moves s e p q y h₁ .0 }
 
   pub listed-end : Listed s c [] → (next : BitCursor) × (turnAnswer e (nextPayload s e p) ≡ PayloadStep.End next)
   unfolding payloads rest turnAnswer turnFound

@@ -1,0 +1,36 @@
+-- What a reading that fills a table answers, and what it plans before it fills it. Assumes nothing.
+use mathlib.Core.List.{List}
+use Prim.Native.Nat.{ℕ}
+use lib.Dec.{leb}
+use Rattle.openjoc_bitio.specs.Choice.{if_then_else_}
+use Rattle.openjoc_bitio.specs.declared.BitCursor.{BitCursor}
+use Rattle.emdf_format.specs.Reader.{cursorAt}
+use Rattle.emdf_format.specs.Reading.{Reading, accepted, refusal}
+use Rattle.emdf_format.specs.Calls.{Records, recorded, unrecorded}
+use Rattle.emdf_format.specs.declared.RecordsError.{RecordsError}
+use Rattle.emdf_format.specs.declared.RecordsError.the-variants as RecordsError
+use Rattle.openjoc_emdf.specs.Answers.{parsedEmdf, firstPayload}
+use Rattle.openjoc_emdf.specs.declared.ParsedEmdf.{ParsedEmdf}
+use Rattle.emdf_records.specs.declared.RecordsAnswer.{RecordsAnswer}
+use Rattle.emdf_records.specs.declared.RecordsAnswer.the-variants as RecordsAnswer
+use Rattle.emdf_records.specs.declared.RecordsPlan.{RecordsPlan}
+
+unfoldable pub recordsAnswer : Records → RecordsAnswer
+recordsAnswer (recorded n c) = RecordsAnswer.Parsed (parsedEmdf n c)
+recordsAnswer (unrecorded why) = RecordsAnswer.Refused why
+
+-- ---- before a row is filled
+
+-- refused: no row is filled
+unfoldable pub noRows : RecordsError → RecordsPlan
+noRows why = record { answer = RecordsAnswer.Refused why; count = 0; first = cursorAt 0 0 }
+
+unfoldable pub rowsPlan : ParsedEmdf → BitCursor → ℕ → RecordsPlan
+rowsPlan p first rows =
+    if leb (p .container .payloads) rows
+    then record { answer = RecordsAnswer.Parsed p; count = p .container .payloads; first = first }
+    else noRows (RecordsError.TableTooShort (p .container .payloads))
+
+unfoldable pub planOf : ℕ → List ℕ → Reading → RecordsPlan
+planOf rows s (accepted n c) = rowsPlan (parsedEmdf n c) (firstPayload n s) rows
+planOf rows s (refusal why) = noRows (RecordsError.Emdf why)
