@@ -1,12 +1,19 @@
-# make test       every test: the comparison with the Rust original, then the proofs, must-fail edits and stored runs
+# make test       every test: the comparison with the Rust original, emdfcheck's runs, then the proofs, must-fail edits and stored runs
+# make emdfcheck  proves and builds target/bin/emdfcheck
 # make bitfields  proves and builds target/bin/bitfields
 # make lib        proves and builds target/staticlib/libemdf_host.a, for include/emdf.h
 # make long       the comparison with the Rust original at its long length
-.PHONY: test bitfields lib long
+.PHONY: test emdfcheck bitfields lib long
+# Two runs of rt would write the same target/.
+.NOTPARALLEL:
 
-test: lib
+test: lib emdfcheck
 	@tests/differential/run --short
+	@tests/emdfcheck/run
 	@rt ci
+
+emdfcheck:
+	@rt check emdfcheck
 
 bitfields:
 	@rt check bitfields

@@ -9,14 +9,25 @@
 extern "C" {
 #endif
 
-/* What a call returns: 0, or the number of the refusal, whose figures are the answer's first two numbers. */
+/* What a call returns: 0, or the number of the refusal, whose figures are the answer's first two numbers (of
+   emdf_classify, the two after the class). */
 enum {
     EMDF_ACCEPTED = 0,
-    EMDF_END_OF_INPUT = 3,  /* requested, remaining (bits) */
-    EMDF_INVALID_WIDTH = 4, /* width */
+    EMDF_TRUNCATED_CONTAINER = 1, /* declared, available (bytes) */
+    EMDF_INVALID_SYNCWORD = 2,    /* actual */
+    EMDF_END_OF_INPUT = 3,        /* requested, remaining (bits) */
+    EMDF_INVALID_WIDTH = 4,       /* width */
     EMDF_INVALID_VARIABLE_BITS = 5,     /* width, limit */
     EMDF_VARIABLE_BITS_GROUP_LIMIT = 6, /* width, limit */
-    EMDF_VALUE_OVERFLOW = 7
+    EMDF_VALUE_OVERFLOW = 7,
+    EMDF_UNSUPPORTED_VERSION = 8, /* version */
+    EMDF_NONZERO_RESERVED_DATA = 9,
+    EMDF_RESERVED_PRIMARY_PROTECTION_LENGTH = 10,
+    EMDF_EXCESS_PADDING = 11,     /* bits */
+    EMDF_NONZERO_PADDING = 12,
+    EMDF_TABLE_TOO_SHORT = 13,    /* payloads */
+    EMDF_NO_SUCH_PAYLOAD = 16,
+    EMDF_SCRATCH_TOO_SHORT = 19   /* needed (bytes) */
 };
 
 /* The size in bytes of a bit or field call's answer, and where its six numbers stand (see emdf_word). */
@@ -30,7 +41,78 @@ enum {
     EMDF_WINDOW_END = 5
 };
 
-/* The i-th number of an answer: 8 bytes, the most significant first. */
+/* The size in bytes of emdf_read's answer, and where its nine numbers stand. */
+#define EMDF_READ_ANSWER 72
+enum {
+    EMDF_BYTES_CONSUMED = 0,
+    EMDF_KEY_ID = 1,
+    EMDF_PAYLOADS = 2,
+    EMDF_PRIMARY_LENGTH = 3,
+    EMDF_PRIMARY = 4,          /* 16 bytes, of which the last EMDF_PRIMARY_LENGTH are the protection */
+    EMDF_SECONDARY_LENGTH = 6,
+    EMDF_SECONDARY = 7         /* 16 bytes, likewise */
+};
+
+/* The size in bytes of emdf_classify's answer, and where its numbers stand. */
+#define EMDF_CLASS_ANSWER 80
+enum {
+    EMDF_CLASS = 0,
+    EMDF_CLASS_READING = 1,        /* EMDF_PARSED: the nine numbers of emdf_read, from here on */
+    EMDF_CLASS_FIRST_FIGURE = 1,   /* EMDF_MALFORMED: the refusal's figures */
+    EMDF_CLASS_SECOND_FIGURE = 2,
+    EMDF_CLASS_CONTAINER_BYTES = 1, /* EMDF_TRAILING_DATA */
+    EMDF_CLASS_CARRIER_BYTES = 2
+};
+
+/* The classes. */
+enum {
+    EMDF_NON_EMDF = 0,
+    EMDF_PARSED = 1,
+    EMDF_TRAILING_DATA = 2,
+    EMDF_MALFORMED = 3
+};
+
+/* The size in bytes of emdf_move_body's answer, and where its two numbers stand. */
+#define EMDF_MOVE_ANSWER 16
+enum {
+    EMDF_BODY_START_BIT = 0,
+    EMDF_BODY_LENGTH = 1
+};
+
+/* The size in bytes of a payload's row in the table, and where its 27 numbers stand. The number before a value is 1 where
+   the value is present, and 0, with the value 0, where it is absent. Starts and ends are in bits from the carrier's first. */
+#define EMDF_ROW 216
+enum {
+    EMDF_ROW_ID = 0,
+    EMDF_ROW_HAS_SAMPLE_OFFSET = 1,
+    EMDF_ROW_SAMPLE_OFFSET = 2,
+    EMDF_ROW_HAS_DURATION = 3,
+    EMDF_ROW_DURATION = 4,
+    EMDF_ROW_HAS_GROUP_ID = 5,
+    EMDF_ROW_GROUP_ID = 6,
+    EMDF_ROW_CODEC_DATA_PRESENT = 7,
+    EMDF_ROW_DISCARD_UNKNOWN_PAYLOAD = 8,
+    EMDF_ROW_HAS_PAYLOAD_FRAME_ALIGNED = 9,
+    EMDF_ROW_PAYLOAD_FRAME_ALIGNED = 10,
+    EMDF_ROW_HAS_CREATE_DUPLICATE = 11,
+    EMDF_ROW_CREATE_DUPLICATE = 12,
+    EMDF_ROW_HAS_REMOVE_DUPLICATE = 13,
+    EMDF_ROW_REMOVE_DUPLICATE = 14,
+    EMDF_ROW_HAS_PRIORITY = 15,
+    EMDF_ROW_PRIORITY = 16,
+    EMDF_ROW_HAS_PROCESSING_ALLOWED = 17,
+    EMDF_ROW_PROCESSING_ALLOWED = 18,
+    EMDF_ROW_ID_START_BIT = 19,
+    EMDF_ROW_ID_END_BIT = 20,
+    EMDF_ROW_CONFIG_START_BIT = 21,
+    EMDF_ROW_CONFIG_END_BIT = 22,
+    EMDF_ROW_SIZE_START_BIT = 23,
+    EMDF_ROW_SIZE_END_BIT = 24,
+    EMDF_ROW_BODY_START_BIT = 25,
+    EMDF_ROW_BODY_END_BIT = 26
+};
+
+/* The i-th number of an answer or a row: 8 bytes, the most significant first. */
 static inline uint64_t emdf_word(const uint8_t *answer, size_t i)
 {
     uint64_t v = 0;
@@ -51,6 +133,17 @@ uint32_t emdf_byte_align(const uint8_t *bytes, size_t length, size_t position, s
 /* A variable field. A refused one has the cursor after the last bit that it read. */
 uint32_t emdf_variable_bits(const uint8_t *bytes, size_t length, size_t position, size_t end, uint8_t width, uint8_t limit,
                             uint8_t *answer);
+
+/* What a range of bytes is. Returns 0 unless it is EMDF_MALFORMED. */
+uint32_t emdf_classify(const uint8_t *bytes, size_t length, uint8_t *answer);
+
+/* Reads the carrier at the start of bytes. The table gets a row a payload; the rest of it, and all of it where the call
+   refuses, stays as it was. */
+uint32_t emdf_read(const uint8_t *bytes, size_t length, uint8_t *table, size_t table_length, uint8_t *answer);
+
+/* Copies the body of the payload at place to the scratch, unless it starts on a byte of the carrier. */
+uint32_t emdf_move_body(const uint8_t *bytes, size_t length, size_t place, uint8_t *scratch, size_t scratch_length,
+                        uint8_t *answer);
 
 #ifdef __cplusplus
 }

@@ -10,6 +10,13 @@ use Rattle.emdf_format.specs.declared.Optional.the-variants.{Absent, Pre
 use Rattle.emdf_format.specs.declared.EmdfPayloadConfig.{EmdfPayloadConfig}
 use Rattle.emdf_format.specs.declared.JocProfileField.{JocProfileField}
 use Rattle.emdf_format.specs.declared.JocProfileField.the-variants.{SampleOffset, Duration, GroupId, CodecDataPresent, DiscardUnknownPayload, PayloadFrameAligned, CreateDuplicate, RemoveDuplicate, Priority, ProcessingAllowed}
+use Rattle.emdf_format.specs.declared.PlacedConfig.{PlacedConfig}
+use Rattle.emdf_format.specs.declared.JocRole.{JocRole}
+use Rattle.emdf_format.specs.declared.JocRole.the-variants.{Oamd, Joc}
+use Rattle.emdf_format.specs.declared.JocProfileValue.{JocProfileValue}
+use Rattle.emdf_format.specs.declared.JocProfileValue.the-variants as JocProfileValue
+use Rattle.emdf_format.specs.declared.AllowedDeviation.{AllowedDeviation}
+use Rattle.emdf_format.specs.declared.AllowedDeviation.the-variants.{Never, Only}
 use Rattle.emdf_format.specs.declared.JocValidationProfile.{JocValidationProfile}
 use Rattle.emdf_format.specs.declared.JocValidationProfile.the-variants.{EtsiStrict, ObservedVendorCompat}
 use Rattle.emdf_format.specs.declared.JocValidationStatus.{JocValidationStatus}
@@ -22,53 +29,39 @@ use Rattle.emdf_format.specs.Reading.{Found, Reading, accepted, refusal,
 
 -- ---- table 56
 
-pub data Wanted : Type 0 where
-  absent : Wanted
-  present : Wanted
-  value : ℕ → Wanted
+unfoldable pub meets : JocProfileValue → Optional → Bool
+meets JocProfileValue.Absent o = not (isPresent o)
+meets JocProfileValue.Present o = isPresent o
+meets (JocProfileValue.Unsigned n) Absent = false
+meets (JocProfileValue.Unsigned n) (Present v) = eqb v n
 
-unfoldable pub meets : Wanted → Optional → Bool
-meets absent o = not (isPresent o)
-meets present o = isPresent o
-meets (value n) Absent = false
-meets (value n) (Present v) = eqb v n
-
--- a deviating value that the compat policy lets pass all the same
-pub data Exception : Type 0 where
-  never : Exception
-  only : Optional → Exception
-
-pub data Role : Type 0 where
-  oamd : Role
-  joc : Role
-
--- an exception for OAMD alone
-unfoldable pub onOamd : Role → Exception → Exception
-onOamd oamd x = x
-onOamd joc x = never
+-- let pass on OAMD alone
+unfoldable pub onOamd : JocRole → AllowedDeviation → AllowedDeviation
+onOamd Oamd x = x
+onOamd Joc x = Never
 
 pub record Entry : Type 0 where
   pub field : JocProfileField
-  pub wanted : Wanted
-  pub exception : Exception
+  pub wanted : JocProfileValue
+  pub allowed : AllowedDeviation
   pub found : Optional
 
-abbrev pub entry : JocProfileField → Wanted → Exception → Optional → Entry
-entry f w x o = record { field = f; wanted = w; exception = x; found = o }
+abbrev pub entry : JocProfileField → JocProfileValue → AllowedDeviation → Optional → Entry
+entry f w x o = record { field = f; wanted = w; allowed = x; found = o }
 
 -- the ten fields of a payload, in the order of the settings: wanted, let pass by compat, found
-unfoldable pub table56 : Role → EmdfPayloadConfig → List Entry
+unfoldable pub table56 : JocRole → EmdfPayloadConfig → List Entry
 table56 r t =
-    entry SampleOffset absent never (t .«sample_offset»)
-    ∷ entry Duration absent never (t .duration)
-    ∷ entry GroupId present never (t .«group_id»)
-    ∷ entry CodecDataPresent (value 1) (only (Present 0)) (Present (t .«codec_data_present»))
-    ∷ entry DiscardUnknownPayload (value 0) never (Present (t .«discard_unknown_payload»))
-    ∷ entry PayloadFrameAligned (value 1) (onOamd r (only (Present 0))) (t .«payload_frame_aligned»)
-    ∷ entry CreateDuplicate (value 0) (onOamd r (only Absent)) (t .«create_duplicate»)
-    ∷ entry RemoveDuplicate (value 0) (onOamd r (only Absent)) (t .«remove_duplicate»)
-    ∷ entry Priority (value 0) (onOamd r (only Absent)) (t .priority)
-    ∷ entry ProcessingAllowed (value 0) (onOamd r (only Absent)) (t .«processing_allowed»)
+    entry SampleOffset JocProfileValue.Absent Never (t .«sample_offset»)
+    ∷ entry Duration JocProfileValue.Absent Never (t .duration)
+    ∷ entry GroupId JocProfileValue.Present Never (t .«group_id»)
+    ∷ entry CodecDataPresent (JocProfileValue.Unsigned 1) (Only (Present 0)) (Present (t .«codec_data_present»))
+    ∷ entry DiscardUnknownPayload (JocProfileValue.Unsigned 0) Never (Present (t .«discard_unknown_payload»))
+    ∷ entry PayloadFrameAligned (JocProfileValue.Unsigned 1) (onOamd r (Only (Present 0))) (t .«payload_frame_aligned»)
+    ∷ entry CreateDuplicate (JocProfileValue.Unsigned 0) (onOamd r (Only Absent)) (t .«create_duplicate»)
+    ∷ entry RemoveDuplicate (JocProfileValue.Unsigned 0) (onOamd r (Only Absent)) (t .«remove_duplicate»)
+    ∷ entry Priority (JocProfileValue.Unsigned 0) (onOamd r (Only Absent)) (t .priority)
+    ∷ entry ProcessingAllowed (JocProfileValue.Unsigned 0) (onOamd r (Only Absent)) (t .«processing_allowed»)
     ∷ []
 
 unfoldable pub deviates : Entry → Bool
@@ -88,7 +81,7 @@ marks [] = []
 marks (x ∷ xs) = deviates x ∷ marks xs
 
 unfoldable pub deviations : EmdfPayloadConfig → EmdfPayloadConfig → List Bool
-deviations o j = marks (table56 oamd o) ++ marks (table56 joc j) ++ differ (o .«group_id») (j .«group_id») ∷ []
+deviations o j = marks (table56 Oamd o) ++ marks (table56 Joc j) ++ differ (o .«group_id») (j .«group_id») ∷ []
 
 -- as a word, the first its lowest bit; and how many
 unfoldable pub word : List Bool → ℕ
@@ -101,19 +94,22 @@ ones (b ∷ bs) = (if b then 1 else 0) + ones bs
 
 -- ---- the policies
 
-unfoldable pub passes : Exception → Optional → Bool
-passes never o = false
-passes (only x) o = not (differ x o)
+unfoldable pub lets : AllowedDeviation → Optional → Bool
+lets Never o = false
+lets (Only x) o = not (differ x o)
+
+unfoldable pub passes : Entry → Bool
+passes x = meets (x .wanted) (x .found) || lets (x .allowed) (x .found)
 
 unfoldable pub allPass : List Entry → Bool
 allPass [] = true
-allPass (x ∷ xs) = (not (deviates x) || passes (x .exception) (x .found)) & allPass xs
+allPass (x ∷ xs) = passes x & allPass xs
 
 -- strict lets no deviation pass; compat goes by the values, and never lets unequal group ids pass
 unfoldable pub meetsProfile : JocValidationProfile → EmdfPayloadConfig → EmdfPayloadConfig → Bool
 meetsProfile EtsiStrict o j = eqb (ones (deviations o j)) 0
 meetsProfile ObservedVendorCompat o j =
-    allPass (table56 oamd o) & allPass (table56 joc j) & not (differ (o .«group_id») (j .«group_id»))
+    allPass (table56 Oamd o) & allPass (table56 Joc j) & not (differ (o .«group_id») (j .«group_id»))
 
 -- ---- table 55: one OAMD payload, id 11, and one JOC payload, id 14
 
@@ -121,18 +117,14 @@ unfoldable pub countId : ℕ → List Found → ℕ
 countId id [] = 0
 countId id (x ∷ xs) = (if eqb (x .record-of .id) id then 1 else 0) + countId id xs
 
-pub record Placed : Type 0 where
-  pub place : ℕ
-  pub config : EmdfPayloadConfig
-
 -- the first payload with an id, the list's first at place k
-unfoldable pub firstId : ℕ → ℕ → List Found → Option Placed
+unfoldable pub firstId : ℕ → ℕ → List Found → Option PlacedConfig
 firstId id k [] = none
 firstId id k (x ∷ xs) =
     if eqb (x .record-of .id) id then some (record { place = k; config = x .record-of .config }) else firstId id (suc k) xs
 
 -- the payload with an id, where there is just one
-unfoldable pub onlyId : ℕ → List Found → Option Placed
+unfoldable pub onlyId : ℕ → List Found → Option PlacedConfig
 onlyId id xs = if eqb (countId id xs) 1 then firstId id 0 xs else none
 
 -- ---- the verdict
@@ -140,7 +132,7 @@ onlyId id xs = if eqb (countId id xs) 1 then firstId id 0 xs else none
 unfoldable pub status : ℕ → JocValidationStatus
 status n = if eqb n 0 then NormativeCompliant else AcceptedWithDeviation
 
-unfoldable pub judge : JocValidationProfile → Placed → Placed → JocProfileAnswer
+unfoldable pub judge : JocValidationProfile → PlacedConfig → PlacedConfig → JocProfileAnswer
 judge profile o j =
     let ds : List Bool = deviations (o .config) (j .config) in
     if meetsProfile profile (o .config) (j .config)
@@ -148,7 +140,7 @@ judge profile o j =
     else Refused (Configuration (word ds) (ones ds))
 
 -- 14 where one of them is missing or repeated
-unfoldable pub judged : JocValidationProfile → Option Placed → Option Placed → JocProfileAnswer → JocProfileAnswer
+unfoldable pub judged : JocValidationProfile → Option PlacedConfig → Option PlacedConfig → JocProfileAnswer → JocProfileAnswer
 judged profile (some o) (some j) otherwise = judge profile o j
 judged profile none j otherwise = otherwise
 judged profile (some o) none otherwise = otherwise

@@ -100,6 +100,31 @@ pub enum JocValidationProfile {
     ObservedVendorCompat,
 }
 
+// A payload's place in its container, and its settings.
+pub struct PlacedConfig {
+    pub place: usize,
+    pub config: EmdfPayloadConfig,
+}
+
+// The two payloads of table 55.
+pub enum JocRole {
+    Oamd,
+    Joc,
+}
+
+// What table 56 wants of a setting.
+pub enum JocProfileValue {
+    Absent,
+    Present,
+    Unsigned(u64),
+}
+
+// The one deviating value of a setting that the compat policy lets pass, if any.
+pub enum AllowedDeviation {
+    Never,
+    Only(Optional),
+}
+
 // The settings as table 56 names them.
 pub enum JocProfileField {
     SampleOffset,

@@ -1,11 +1,12 @@
 -- Laws of the byte form of numbers. Assumes nothing.
 use mathlib.Core.Path.{_≡_, refl, sym, ap, _∙_}
-use mathlib.Core.List.{List, [], _∷_, _++_, append-nil}
+use mathlib.Core.List.{List, [], _∷_, _++_, append-nil, append-assoc}
 use Prim.Native.Nat.{ℕ, zero, suc, _+_, _-_, _*_, _/_, _%_, _^_, _<_}
 use native.Mathlib.Nat.{add-zero, zero-add, le-refl}
+use native.Mathlib.Numerals.{add-one}
 use native.Mathlib.Omega.{arith}
-use lib.ListN.{length, set, drop, length-append}
-use lib.Seq.{sets, sets-eq}
+use lib.ListN.{length, set, drop, getD, length-append}
+use lib.Seq.{sets, sets-eq, drop-cons}
 use Rattle.emdf_host.specs.Form.{bigEndian, words}
 
 length-big-endian : (n v : ℕ) → length (bigEndian n v) ≡ n
@@ -13,7 +14,7 @@ unfolding bigEndian
 length-big-endian zero v = refl
 length-big-endian (suc n) v = ap suc (length-big-endian n v)
 
-length-words : (vs : List ℕ) → length (words vs) ≡ 8 * length vs
+pub length-words : (vs : List ℕ) → length (words vs) ≡ 8 * length vs
 unfolding words
 length-words [] = refl
 length-words (v ∷ vs) = rw (length-append, length-big-endian 8 v) (omega (arith, length-words vs))
@@ -32,15 +33,24 @@ pub all-stored : (l : List ℕ) (at n v : ℕ) → n ≡ 0 → sets l at (bigEnd
 unfolding bigEndian
 all-stored l at n v e = rw e
 
-sets-append : (l : List ℕ) (i : ℕ) (xs ys : List ℕ) → sets (sets l i xs) (i + length xs) ys ≡ sets l i (xs ++ ys)
+pub sets-append : (l : List ℕ) (i : ℕ) (xs ys : List ℕ) → sets (sets l i xs) (i + length xs) ys ≡ sets l i (xs ++ ys)
 sets-append l i [] ys = rw add-zero
 sets-append l i (x ∷ xs) ys = let e : i + suc (length xs) ≡ suc i + length xs = omega arith in rw e (sets-append (set l i x) (suc i) xs ys)
 
 -- a word stored, and the words after it
-words-stored : (l : List ℕ) (i v : ℕ) (vs : List ℕ) → sets (sets l i (bigEndian 8 v)) (i + 8) (words vs) ≡ sets l i (words (v ∷ vs))
+pub words-stored : (l : List ℕ) (i v : ℕ) (vs : List ℕ) → sets (sets l i (bigEndian 8 v)) (i + 8) (words vs) ≡ sets l i (words (v ∷ vs))
 unfolding words
 words-stored l i v vs =
     ap (λ (n : ℕ). sets (sets l i (bigEndian 8 v)) (i + n) (words vs)) (sym (length-big-endian 8 v)) ∙ sets-append l i (bigEndian 8 v) (words vs)
+
+words-append : (xs ys : List ℕ) → words (xs ++ ys) ≡ words xs ++ words ys
+unfolding words
+words-append [] ys = refl
+words-append (x ∷ xs) ys = rw (words-append xs ys) (sym (append-assoc (bigEndian 8 x) (words xs) (words ys)))
+
+-- some words stored, and others after them
+pub words-then : (l : List ℕ) (i : ℕ) (xs ys : List ℕ) {k : ℕ} → k ≡ i + 8 * length xs → sets (sets l i (words xs)) k (words ys) ≡ sets l i (words (xs ++ ys))
+words-then l i xs ys e = rw (e, words-append, ← length-words xs) (sets-append l i (words xs) (words ys))
 
 drop-all : (l : List ℕ) → drop (length l) l ≡ []
 drop-all [] = refl
@@ -50,16 +60,30 @@ drop-all (x ∷ xs) = drop-all xs
 stored-whole : (l xs : List ℕ) → length xs ≡ length l → sets l 0 xs ≡ xs
 stored-whole l xs e = sets-eq xs l 0 (rw (zero-add, e) (le-refl _)) ∙ rw (zero-add, e, drop-all) (append-nil xs)
 
--- words stored one after the other, from index i on
-abbrev pub stores : List ℕ → ℕ → List ℕ → List ℕ
-stores l i [] = l
-stores l i (v ∷ vs) = stores (sets l i (bigEndian 8 v)) (i + 8) vs
+-- the i-th of some words stored, and none left
+pub word-stored : (l : List ℕ) (at i : ℕ) (vs : List ℕ) → i < length vs
+    → sets (sets l (at + 8 * i) (bigEndian 8 (getD vs i 0))) (at + 8 * (i + 1)) (words (drop (i + 1) vs)) ≡ sets l (at + 8 * i) (words (drop i vs))
+word-stored l at i vs h =
+    let a : at + 8 * (i + 1) ≡ at + 8 * i + 8 = omega arith in
+    rw (a, add-one, drop-cons vs i 0) (words-stored l (at + 8 * i) (getD vs i 0) (drop (suc i) vs))
 
-stores-words : (l : List ℕ) (i : ℕ) (vs : List ℕ) → stores l i vs ≡ sets l i (words vs)
+pub words-done : (l : List ℕ) (at i : ℕ) (vs : List ℕ) → i ≡ length vs → sets l at (words (drop i vs)) ≡ l
 unfolding words
-stores-words l i [] = refl
-stores-words l i (v ∷ vs) = stores-words (sets l i (bigEndian 8 v)) (i + 8) vs ∙ words-stored l i v vs
+words-done l at i vs e = rw (e, drop-all)
 
 -- over the whole of a list
-pub stores-whole : (l vs : List ℕ) → 8 * length vs ≡ length l → stores l 0 vs ≡ words vs
-stores-whole l vs e = stores-words l 0 vs ∙ stored-whole l (words vs) (length-words vs ∙ e)
+pub words-whole : (l vs : List ℕ) → 8 * length vs ≡ length l → sets l 0 (words vs) ≡ words vs
+words-whole l vs e = stored-whole l (words vs) (length-words vs ∙ e)
+
+-- a list by its elements, n of them from the i-th on
+abbrev elements : ℕ → ℕ → List ℕ → List ℕ
+elements i zero l = []
+elements i (suc n) l = getD l i 0 ∷ elements (suc i) n l
+
+elements-later : (i n x : ℕ) (l : List ℕ) → elements (suc i) n (x ∷ l) ≡ elements i n l
+elements-later i zero x l = refl
+elements-later i (suc n) x l = ap (λ (m : List ℕ). getD l i 0 ∷ m) (elements-later (suc i) n x l)
+
+pub elements-all : (l : List ℕ) → elements 0 (length l) l ≡ l
+elements-all [] = refl
+elements-all (x ∷ l) = ap (λ (m : List ℕ). x ∷ m) (elements-later 0 (length l) x l ∙ elements-all l)

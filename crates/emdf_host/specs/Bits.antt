@@ -16,6 +16,7 @@ use Rattle.openjoc_bitio.specs.declared.AlignAnswer.{AlignAnswer}
 use Rattle.openjoc_bitio.specs.declared.AlignAnswer.the-variants as AlignAnswer
 use Rattle.emdf_host.specs.Form.{words}
 use Rattle.emdf_host.specs.declared.BitReply.{BitReply}
+use Rattle.emdf_host.specs.declared.Figures.{Figures}
 
 -- the 48 bytes of an answer
 unfoldable pub replyBytes : BitReply → List ℕ
@@ -35,6 +36,10 @@ cursorAt p e = record { position = p; end = e }
 -- a number, two figures, and a cursor
 abbrev pub numbered : BitCursor → ℕ → ℕ → ℕ → BitReply
 numbered c n first second = record { number = n; first = first; second = second; cursor = c; window = cursorAt 0 0 }
+
+-- a refusal's number and its first two figures, 0 where it has none
+abbrev pub figured : ℕ → List ℕ → Figures
+figured n fs = record { number = n; first = getD fs 0 0; second = getD fs 1 0 }
 
 -- accepted: the value, and the cursor after it
 unfoldable pub accepted : BitCursor → ℕ → BitReply

@@ -1,3 +1,4 @@
 pub mod Form
 pub mod Bits
 pub mod Fields
+pub mod Carriers

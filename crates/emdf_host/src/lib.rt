@@ -1,19 +1,39 @@
 // What a C host calls: exported functions on numbers and byte slices. docs/HOST.md has each byte form.
 ghost use mathlib.Core.Path.{_≡_};
-ghost use Prim.Native.Nat.{_+_, _≤_};
-ghost use lib.ListN.{length};
+ghost use mathlib.Core.List.{List, [], _∷_};
+ghost use Prim.Native.Nat.{ℕ, _+_, _*_, _≤_};
+ghost use lib.ListN.{length, getD};
 ghost use lib.Seq.{sets};
-ghost use Rattle.emdf_host.specs.Form.{bigEndian};
-ghost use Rattle.emdf_host.specs.Bits.{replyBytes, accepted, refusal, bitsReply, bitReply, windowReply, alignReply, newReply, remainingReply, readBitsReply, readBitReply, takeBitsReply, byteAlignReply, numbered};
+ghost use Rattle.openjoc_bitio.specs.Cursor.{number as bitNumber, figures as bitFigures};
+ghost use Rattle.emdf_format.specs.Reading.{Found, Container, reading};
+ghost use Rattle.emdf_format.specs.Calls.{number, figures, bodyNumber, bodyFigures, recordsOf, Class, classify, moveBody, foundAt, scratchAfter};
+ghost use Rattle.openjoc_emdf.specs.Answers.{parsedEmdf, classAnswer};
+ghost use Rattle.openjoc_emdf.proofs.Walk.{Listed};
+ghost use Rattle.emdf_host.specs.Form.{bigEndian, words};
+ghost use Rattle.emdf_host.specs.Bits.{replyBytes, accepted, refusal, bitsReply, bitReply, windowReply, alignReply, newReply, remainingReply, readBitsReply, readBitReply, takeBitsReply, byteAlignReply, numbered, figured};
 ghost use Rattle.emdf_host.specs.Fields.{emdfRefusal, fieldReply, variableBitsReply};
+ghost use Rattle.emdf_host.specs.Carriers.{padded, parsedWords, readInto, readNumber, readWords, optionalWords, configWords, traceWords, recordWords, rowsBytes, rowsAfter, classNumber, classWords, moveNumber, moveWords};
+use emdf_format::BodyAnswer;
+use emdf_format::BodyError;
 use emdf_format::EmdfError;
+use emdf_format::EmdfPayloadBitTrace;
+use emdf_format::EmdfPayloadConfig;
+use emdf_format::Optional;
+use emdf_format::PayloadRecord;
 use openjoc_bitio::AlignAnswer;
 use openjoc_bitio::BitAnswer;
 use openjoc_bitio::BitCursor;
 use openjoc_bitio::BitError;
 use openjoc_bitio::BitsAnswer;
 use openjoc_bitio::WindowAnswer;
+use openjoc_emdf::CarrierClassification;
 use openjoc_emdf::FieldAnswer;
+use openjoc_emdf::OpenAnswer;
+use openjoc_emdf::ParsedEmdf;
+use openjoc_emdf::PayloadStep;
+
+// A payload's row: 27 numbers.
+const ROW_BYTES: usize = 216;
 
 // An answer of the bit calls: its number, its value or its two figures, the cursor after it, and the window taken.
 pub struct BitReply {
@@ -22,6 +42,13 @@ pub struct BitReply {
     pub second: u64,
     pub cursor: BitCursor,
     pub window: BitCursor,
+}
+
+// What a call returns, and two figures.
+struct Figures {
+    number: u32,
+    first: u64,
+    second: u64,
 }
 
 #[no_mangle]
@@ -118,6 +145,51 @@ pub extern "C" fn emdf_variable_bits(
     )
 }
 
+// What a range of bytes is.
+#[no_mangle]
+pub extern "C" fn emdf_classify(bytes: &[u8], answer: &mut [u8; 80]) -> u32
+    ensures { λ r. ⌜ (r ≡ classNumber (classify (now (bytes .entry)))) × (now (answer .exit) ≡ words (classWords (classify (now (bytes .entry))))) ⌝ }
+{
+    let class = openjoc_emdf::classify_emdf_carrier(bytes);
+    let values = class_words(class);
+    put_words(answer, 0, &values);
+    class_number(class)
+}
+
+// Reads the carrier; a row of 216 bytes a payload goes into the table.
+#[no_mangle]
+pub extern "C" fn emdf_read(bytes: &[u8], table: &mut [u8], answer: &mut [u8; 72]) -> u32
+    ensures { λ r. ⌜ (r ≡ readNumber (readInto (now (bytes .entry)) (now (table .entry)))) × (now (answer .exit) ≡ words (readWords (readInto (now (bytes .entry)) (now (table .entry))))) × (now (table .exit) ≡ rowsAfter (readInto (now (bytes .entry)) (now (table .entry))) (now (table .entry))) ⌝ }
+{
+    let a = openjoc_emdf::open_carrier(bytes);
+    match a {
+        OpenAnswer::Open(parsed, first) => {
+            let count = parsed.container.payloads;
+            if table.len() / ROW_BYTES < count {
+                return put_refusal(answer, with_figures(13, count as u64, 0));
+            }
+            let n = parsed.bytes_consumed.0;
+            put_rows(table, &bytes[..n], first, count);
+            put_nine(answer, 0, parsed_words(parsed))
+        }
+        OpenAnswer::Refused(why) => put_refusal(answer, emdf_figures(why)),
+    }
+}
+
+// Moves the body of a payload to the scratch, unless it starts on a byte of the carrier.
+#[no_mangle]
+pub extern "C" fn emdf_move_body(
+    bytes: &[u8],
+    place: usize,
+    scratch: &mut [u8],
+    answer: &mut [u8; 16],
+) -> u32
+    ensures { λ r. ⌜ (r ≡ moveNumber (moveBody (reading (now (bytes .entry))) place (length (now (scratch .entry))))) × (now (answer .exit) ≡ words (moveWords (moveBody (reading (now (bytes .entry))) place (length (now (scratch .entry)))))) × (now (scratch .exit) ≡ scratchAfter (foundAt (reading (now (bytes .entry))) place) (now (scratch .entry))) ⌝ }
+{
+    let moved = emdf_bodies::move_body(bytes, place, scratch);
+    put_moved(answer, moved)
+}
+
 fn field_reply(answer: FieldAnswer) -> BitReply
     ensures { λ r. ⌜ r ≡ fieldReply answer ⌝ }
 {
@@ -178,38 +250,15 @@ fn accepted_at(cursor: BitCursor, value: u64) -> BitReply
 fn refused_at(cursor: BitCursor, why: BitError) -> BitReply
     ensures { λ r. ⌜ r ≡ refusal cursor why ⌝ }
 {
-    match why {
-        BitError::EndOfInput {
-            requested,
-            remaining,
-        } => figures_at(cursor, 3, requested as u64, remaining as u64),
-        BitError::InvalidWidth { width } => figures_at(cursor, 4, width as u64, 0),
-    }
+    let f = bit_figures(why);
+    figures_at(cursor, f.number, f.first, f.second)
 }
 
 fn emdf_refused_at(cursor: BitCursor, why: EmdfError) -> BitReply
     ensures { λ r. ⌜ r ≡ emdfRefusal cursor why ⌝ }
 {
-    match why {
-        EmdfError::TruncatedContainer {
-            declared,
-            available,
-        } => figures_at(cursor, 1, declared as u64, available as u64),
-        EmdfError::InvalidSyncword { actual } => figures_at(cursor, 2, actual as u64, 0),
-        EmdfError::Bit(inner) => refused_at(cursor, inner),
-        EmdfError::InvalidVariableBits { width, limit } => {
-            figures_at(cursor, 5, width as u64, limit as u64)
-        }
-        EmdfError::VariableBitsGroupLimit { width, limit } => {
-            figures_at(cursor, 6, width as u64, limit as u64)
-        }
-        EmdfError::ValueOverflow => figures_at(cursor, 7, 0, 0),
-        EmdfError::UnsupportedVersion { version } => figures_at(cursor, 8, version, 0),
-        EmdfError::NonzeroReservedData => figures_at(cursor, 9, 0, 0),
-        EmdfError::ReservedPrimaryProtectionLength => figures_at(cursor, 10, 0, 0),
-        EmdfError::ExcessPadding { bits } => figures_at(cursor, 11, bits as u64, 0),
-        EmdfError::NonzeroPadding => figures_at(cursor, 12, 0, 0),
-    }
+    let f = emdf_figures(why);
+    figures_at(cursor, f.number, f.first, f.second)
 }
 
 fn figures_at(cursor: BitCursor, number: u32, first: u64, second: u64) -> BitReply
@@ -230,13 +279,276 @@ fn figures_at(cursor: BitCursor, number: u32, first: u64, second: u64) -> BitRep
 fn put_reply(answer: &mut [u8; 48], reply: BitReply) -> u32
     ensures { λ r. ⌜ (r ≡ reply .number) × (now (answer .exit) ≡ replyBytes reply) ⌝ }
 {
-    put_word(answer, 0, reply.first);
-    put_word(answer, 8, reply.second);
-    put_word(answer, 16, reply.cursor.position as u64);
-    put_word(answer, 24, reply.cursor.end as u64);
-    put_word(answer, 32, reply.window.position as u64);
-    put_word(answer, 40, reply.window.end as u64);
+    let values = [
+        reply.first,
+        reply.second,
+        reply.cursor.position as u64,
+        reply.cursor.end as u64,
+        reply.window.position as u64,
+        reply.window.end as u64,
+    ];
+    put_words(answer, 0, &values);
     reply.number
+}
+
+// The class, and nine numbers.
+fn class_words(class: CarrierClassification) -> [u64; 10]
+    ensures { λ r. ⌜ ((k : Class) → class ≡ classAnswer k → r ≡ classWords k) ⌝ }
+{
+    match class {
+        CarrierClassification::NonEmdf => [0; 10],
+        CarrierClassification::Parsed(parsed) => with_class(1, parsed_words(parsed)),
+        CarrierClassification::TrailingData {
+            container_bytes,
+            carrier_bytes,
+        } => with_class(
+            2,
+            figure_words(with_figures(0, container_bytes.0 as u64, carrier_bytes.0 as u64)),
+        ),
+        CarrierClassification::Malformed(why) => with_class(3, figure_words(emdf_figures(why))),
+    }
+}
+
+fn class_number(class: CarrierClassification) -> u32
+    ensures { λ r. ⌜ ((k : Class) → class ≡ classAnswer k → r ≡ classNumber k) ⌝ }
+{
+    match class {
+        CarrierClassification::Malformed(why) => emdf_figures(why).number,
+        _ => 0,
+    }
+}
+
+fn with_class(class: u64, w: [u64; 9]) -> [u64; 10]
+    ensures { λ r. ⌜ r ≡ class ∷ w ⌝ }
+{
+    [class, w[0], w[1], w[2], w[3], w[4], w[5], w[6], w[7], w[8]]
+}
+
+// An accepted reading's nine numbers.
+fn parsed_words(p: ParsedEmdf) -> [u64; 9]
+    ensures { λ r. ⌜ ((n : ℕ) (c : Container) → p ≡ parsedEmdf n c → r ≡ parsedWords n c) ⌝ }
+{
+    let c = p.container;
+    let primary = c.protection.primary;
+    let secondary = c.protection.secondary;
+    [
+        p.bytes_consumed.0 as u64,
+        c.key_id,
+        c.payloads as u64,
+        primary.length.0 as u64,
+        primary.high,
+        primary.low,
+        secondary.length.0 as u64,
+        secondary.high,
+        secondary.low,
+    ]
+}
+
+// Two figures, in the place of nine numbers.
+fn figure_words(f: Figures) -> [u64; 9]
+    ensures { λ r. ⌜ r ≡ padded 9 (f .first ∷ f .second ∷ []) ⌝ }
+{
+    [f.first, f.second, 0, 0, 0, 0, 0, 0, 0]
+}
+
+fn put_refusal(answer: &mut [u8; 72], f: Figures) -> u32
+    ensures { λ r. ⌜ (r ≡ f .number) × (now (answer .exit) ≡ words (padded 9 (f .first ∷ f .second ∷ []))) ⌝ }
+{
+    put_nine(answer, f.number, figure_words(f))
+}
+
+fn put_nine(answer: &mut [u8; 72], number: u32, values: [u64; 9]) -> u32
+    ensures { λ r. ⌜ (r ≡ number) × (now (answer .exit) ≡ words values) ⌝ }
+{
+    put_words(answer, 0, &values);
+    number
+}
+
+// A row for each of count payloads, the first of which stands at c.
+fn put_rows(table: &mut [u8], s: &[u8], c: BitCursor, count: usize)
+    requires { ⌜ count * 216 ≤ length (now table) ⌝ }
+    ensures { λ _. ⌜ ((xs : List Found) → Listed (now (s .entry)) c xs → length xs ≡ count → now (table .exit) ≡ sets (now (table .entry)) 0 (rowsBytes (recordsOf xs))) ⌝ }
+{
+    let mut at = c;
+    let mut place: usize = 0;
+    while place < count {
+        let step = openjoc_emdf::next_payload(s, at);
+        let PayloadStep::Payload(row, next) = step else {
+            // An accepted carrier has count payloads.
+            return;
+        };
+        put_record(table, place * ROW_BYTES, row);
+        at = next;
+        place += 1;
+    }
+}
+
+// The id, 18 numbers of settings, 8 of the trace.
+fn put_record(table: &mut [u8], at: usize, row: PayloadRecord)
+    requires { ⌜ at + 216 ≤ length (now table) ⌝ }
+    ensures { λ _. ⌜ now (table .exit) ≡ sets (now (table .entry)) at (words (recordWords row)) ⌝ }
+{
+    put_word(table, at, row.id);
+    let config = config_words(row.config);
+    put_words(table, at + 8, &config);
+    let trace = trace_words(row.trace);
+    put_words(table, at + 152, &trace);
+}
+
+// The ten settings as 18 numbers, in the order in which they are written.
+fn config_words(t: EmdfPayloadConfig) -> [u64; 18]
+    ensures { λ r. ⌜ r ≡ configWords t ⌝ }
+{
+    let offset = t.sample_offset;
+    let duration = t.duration;
+    let group = t.group_id;
+    let aligned = t.payload_frame_aligned;
+    let create = t.create_duplicate;
+    let remove = t.remove_duplicate;
+    let priority = t.priority;
+    let processing = t.processing_allowed;
+    [
+        presence(offset),
+        value_or_zero(offset),
+        presence(duration),
+        value_or_zero(duration),
+        presence(group),
+        value_or_zero(group),
+        t.codec_data_present,
+        t.discard_unknown_payload,
+        presence(aligned),
+        value_or_zero(aligned),
+        presence(create),
+        value_or_zero(create),
+        presence(remove),
+        value_or_zero(remove),
+        presence(priority),
+        value_or_zero(priority),
+        presence(processing),
+        value_or_zero(processing),
+    ]
+}
+
+fn presence(o: Optional) -> u64
+    ensures { λ r. ⌜ r ≡ getD (optionalWords o) 0 0 ⌝ }
+{
+    match o {
+        Optional::Absent => 0,
+        Optional::Present(_) => 1,
+    }
+}
+
+fn value_or_zero(o: Optional) -> u64
+    ensures { λ r. ⌜ r ≡ getD (optionalWords o) 1 0 ⌝ }
+{
+    match o {
+        Optional::Absent => 0,
+        Optional::Present(value) => value,
+    }
+}
+
+fn trace_words(t: EmdfPayloadBitTrace) -> [u64; 8]
+    ensures { λ r. ⌜ r ≡ traceWords t ⌝ }
+{
+    [
+        t.payload_id_start_bit.0 as u64,
+        t.payload_id_end_bit.0 as u64,
+        t.config_start_bit.0 as u64,
+        t.config_end_bit.0 as u64,
+        t.payload_size_start_bit.0 as u64,
+        t.payload_size_end_bit.0 as u64,
+        t.payload_body_start_bit.0 as u64,
+        t.payload_body_end_bit.0 as u64,
+    ]
+}
+
+fn put_moved(answer: &mut [u8; 16], moved: BodyAnswer) -> u32
+    ensures { λ r. ⌜ (r ≡ moveNumber moved) × (now (answer .exit) ≡ words (moveWords moved)) ⌝ }
+{
+    let f = move_figures(moved);
+    let values = [f.first, f.second];
+    put_words(answer, 0, &values);
+    f.number
+}
+
+fn move_figures(moved: BodyAnswer) -> Figures
+    ensures { λ r. ⌜ r ≡ figured (moveNumber moved) (moveWords moved) ⌝ }
+{
+    match moved {
+        BodyAnswer::Body(start, length) => with_figures(0, start.0 as u64, length.0 as u64),
+        BodyAnswer::Refused(why) => body_figures(why),
+    }
+}
+
+fn body_figures(why: BodyError) -> Figures
+    ensures { λ r. ⌜ r ≡ figured (bodyNumber why) (bodyFigures why) ⌝ }
+{
+    match why {
+        BodyError::Emdf(inner) => emdf_figures(inner),
+        BodyError::NoSuchPayload => with_figures(16, 0, 0),
+        BodyError::ScratchTooShort { needed } => with_figures(19, needed.0 as u64, 0),
+    }
+}
+
+fn emdf_figures(why: EmdfError) -> Figures
+    ensures { λ r. ⌜ r ≡ figured (number why) (figures why) ⌝ }
+{
+    match why {
+        EmdfError::TruncatedContainer {
+            declared,
+            available,
+        } => with_figures(1, declared as u64, available as u64),
+        EmdfError::InvalidSyncword { actual } => with_figures(2, actual as u64, 0),
+        EmdfError::Bit(inner) => bit_figures(inner),
+        EmdfError::InvalidVariableBits { width, limit } => with_figures(
+            5,
+            width as u64,
+            limit as u64,
+        ),
+        EmdfError::VariableBitsGroupLimit { width, limit } => {
+            with_figures(6, width as u64, limit as u64)
+        }
+        EmdfError::ValueOverflow => with_figures(7, 0, 0),
+        EmdfError::UnsupportedVersion { version } => with_figures(8, version, 0),
+        EmdfError::NonzeroReservedData => with_figures(9, 0, 0),
+        EmdfError::ReservedPrimaryProtectionLength => with_figures(10, 0, 0),
+        EmdfError::ExcessPadding { bits } => with_figures(11, bits as u64, 0),
+        EmdfError::NonzeroPadding => with_figures(12, 0, 0),
+    }
+}
+
+fn bit_figures(why: BitError) -> Figures
+    ensures { λ r. ⌜ r ≡ figured (bitNumber why) (bitFigures why) ⌝ }
+{
+    match why {
+        BitError::EndOfInput {
+            requested,
+            remaining,
+        } => with_figures(3, requested as u64, remaining as u64),
+        BitError::InvalidWidth { width } => with_figures(4, width as u64, 0),
+    }
+}
+
+fn with_figures(number: u32, first: u64, second: u64) -> Figures
+    ensures { λ r. ⌜ r ≡ record { number = number; first = first; second = second } ⌝ }
+{
+    Figures {
+        number,
+        first,
+        second,
+    }
+}
+
+// Numbers, 8 bytes each, from index at on.
+fn put_words(out: &mut [u8], at: usize, values: &[u64])
+    requires { ⌜ at + 8 * length (now values) ≤ length (now out) ⌝ }
+    ensures { λ _. ⌜ now (out .exit) ≡ sets (now (out .entry)) at (words (now (values .entry))) ⌝ }
+{
+    let mut i: usize = 0;
+    while i < values.len() {
+        put_word(out, at + 8 * i, values[i]);
+        i += 1;
+    }
 }
 
 // v in 8 bytes, the most significant first, from index at on.

@@ -12,9 +12,10 @@ use Rattle.emdf_format.specs.Reading.{Found, reading}
 use Rattle.emdf_format.specs.Calls.{recordsOf, Records, inTable, tableAfter}
 use Rattle.emdf_format.specs.declared.PayloadRecord.{PayloadRecord}
 use Rattle.openjoc_emdf.specs.declared.PayloadStep.the-variants as PayloadStep
+use Rattle.openjoc_emdf.proofs.Walk.{stepAt}
 use Rattle.emdf_records.specs.Records.{planOf}
 use Rattle.emdf_records.specs.declared.RecordsPlan.{RecordsPlan}
-use Rattle.emdf_records.proofs.Records.{stepAt, Turns, rest, turned, planned, plan-is, filled}
+use Rattle.emdf_records.proofs.Records.{inside, Left, rest, Turned, turned, planned, plan-is, filled}
 use Rattle.emdf_records.proofs.Row.{Cursor, cursorVal}
 
 -- of a table xs and a carrier in s
@@ -33,7 +34,7 @@ pub record State (s : List ℕ) (xs : List PayloadRecord) : Type 0 where
   pub at-is : Is Cursor at (cursorVal at ∷ [])
   pub counted : k + length left ≡ plan s xs .count
   pub len : length l ≡ length xs
-  pub turns : Turns s at left
+  pub ahead : Left s at left
   pub same : sets l k (recordsOf left) ≡ tableAfter (done s xs) xs
 
 module _ (s : List ℕ) (xs : List PayloadRecord) where
@@ -55,7 +56,7 @@ module _ (s : List ℕ) (xs : List PayloadRecord) where
     at-is = i;
     counted = all-counted;
     len = refl;
-    turns = plan-is s (length xs) (reading s) refl .turns;
+    ahead = plan-is s (length xs) (reading s) refl .left;
     same = filled (done s xs) xs fits;
   }
 
@@ -63,17 +64,17 @@ module _ (s : List ℕ) (xs : List PayloadRecord) where
     pub some-left : st .k < plan s xs .count → 0 < length (st .left)
     some-left h = omega (arith, st .counted)
 
-    module _ {r : PayloadRecord} {c : BitCursor} (g : stepAt s (st .at) ≡ PayloadStep.Payload r c) (h : st .k < plan s xs .count) where
-      abbrev pub turn : Turns s c (rest (st .left)) × (recordsOf (st .left) ≡ r ∷ recordsOf (rest (st .left))) × (length (st .left) ≡ suc (length (rest (st .left))))
-      turn = turned (st .turns) (some-left h) g
+    module _ {r : PayloadRecord} {c : BitCursor} (g : stepAt (inside s (st .at)) (st .at) ≡ PayloadStep.Payload r c) (h : st .k < plan s xs .count) where
+      abbrev pub turn : Turned s (st .left) c r
+      turn = turned s (st .at) (st .left) (st .ahead) (some-left h) g
 
       pub next-counted : st .k + 1 + length (rest (st .left)) ≡ plan s xs .count
-      next-counted = omega (arith, st .counted, turn .2)
+      next-counted = omega (arith, st .counted, turn .count)
 
       pub next-same : sets (set (st .l) (st .k) r) (st .k + 1) (recordsOf (rest (st .left))) ≡ tableAfter (done s xs) xs
       next-same =
           let e : st .k + 1 ≡ suc (st .k) = omega arith in
-          ap (λ (i : ℕ). sets (set (st .l) (st .k) r) i (recordsOf (rest (st .left)))) e ∙ ap (sets (st .l) (st .k)) (sym (turn .1)) ∙ st .same
+          ap (λ (i : ℕ). sets (set (st .l) (st .k) r) i (recordsOf (rest (st .left)))) e ∙ ap (sets (st .l) (st .k)) (sym (turn .records)) ∙ st .same
 
       -- one more row
       abbrev pub next : Is Cursor c (cursorVal c ∷ []) → State s xs
@@ -85,7 +86,7 @@ module _ (s : List ℕ) (xs : List PayloadRecord) where
         at-is = i;
         counted = next-counted;
         len = length-set (st .l) (st .k) r ∙ st .len;
-        turns = turn .0;
+        ahead = turn .left;
         same = next-same;
       }
 

@@ -1,11 +1,11 @@
 -- The plan of a reading that fills a table, and a turn of filling it. Assumes nothing.
-use mathlib.Core.Path.{_≡_, refl, sym, ap, _∙_}
+use mathlib.Core.Path.{_≡_, refl, sym, ap, _∙_, subst}
 use mathlib.Core.Bool.{Bool, true, false}
-use mathlib.Core.List.{List, [], _∷_, _++_}
-use Prim.Native.Nat.{ℕ, zero, suc, _+_, _-_, _*_, _/_, _≤_, _<_}
+use mathlib.Core.List.{List, [], _∷_}
+use Prim.Native.Nat.{ℕ, suc, _/_, _≤_, _<_}
 use native.Mathlib.Omega.{arith}
-use native.Mathlib.Nat.{zero-add, add-zero}
-use lib.ListN.{length, take, drop, set, length-set}
+use native.Mathlib.Nat.{zero-add}
+use lib.ListN.{length, take}
 use lib.Seq.{sets, sets-eq}
 use lib.Dec.{leb, leb→le}
 use Rattle.openjoc_bitio.specs.Choice.{if_then_else_}
@@ -16,13 +16,11 @@ use Rattle.emdf_format.specs.declared.EmdfError.{EmdfError}
 use Rattle.emdf_format.specs.declared.PayloadRecord.{PayloadRecord}
 use Rattle.emdf_format.specs.declared.RecordsError.the-variants as RecordsError
 use Rattle.emdf_format.proofs.Standing.{T-of}
-use Rattle.openjoc_emdf.specs.Answers.{nextPayload, turnAnswer, containerOf, parsedEmdf, firstPayload, openAnswer}
+use Rattle.openjoc_emdf.specs.Answers.{containerOf, parsedEmdf, firstPayload, openAnswer}
 use Rattle.openjoc_emdf.specs.declared.ParsedEmdf.{ParsedEmdf}
-use Rattle.openjoc_emdf.specs.declared.PayloadStep.{PayloadStep}
 use Rattle.openjoc_emdf.specs.declared.PayloadStep.the-variants as PayloadStep
-use Rattle.openjoc_emdf.specs.declared.OpenAnswer.{OpenAnswer}
 use Rattle.openjoc_emdf.specs.declared.OpenAnswer.the-variants as OpenAnswer
-use Rattle.openjoc_emdf.proofs.Walk.{Listed, listed-step, read-first}
+use Rattle.openjoc_emdf.proofs.Walk.{Listed, stepAt, step-found, step-ended, step-refused, read-first}
 use Rattle.emdf_records.specs.Records.{recordsAnswer, noRows, rowsPlan, planOf}
 use Rattle.emdf_records.specs.declared.RecordsPlan.{RecordsPlan}
 
@@ -44,44 +42,40 @@ module _ (s : List ℕ) (rows : ℕ) {r : RecordsPlan} where
 
 -- ---- the payloads still to be recorded
 
-abbrev pub stepAt : List ℕ → BitCursor → PayloadStep
-stepAt s c = turnAnswer (c .end) (nextPayload (take (c .end / 8) s) (c .end) (c .position))
+-- the carrier's bytes, which end where the cursor does
+abbrev pub inside : List ℕ → BitCursor → List ℕ
+inside s c = take (c .end / 8) s
 
--- from the cursor c on, a step for each payload
-pub data Turns (s : List ℕ) : BitCursor → List Found → Type 0 where
-  none : {c : BitCursor} → Turns s c []
-  more : {c next : BitCursor} {x : Found} {xs : List Found} → stepAt s c ≡ PayloadStep.Payload (x .record-of) next → Turns s next xs → Turns s c (x ∷ xs)
-
-turns-of : (s : List ℕ) (n : ℕ) (c : BitCursor) (xs : List Found) → c .end ≡ n * 8 → Listed (take n s) c xs → Turns s c xs
-turns-of s n c [] e l = none
-turns-of s n c (x ∷ xs) e l =
-    let d = listed-step (take n s) c x xs l in
-    let z : c .end / 8 ≡ n = omega (arith, e) in
-    let f : stepAt s c ≡ PayloadStep.Payload (x .record-of) (d .next) = rw z (d .is) in
-    more f (turns-of s n (d .next) xs (d .end ∙ e) (d .listed))
+-- from the cursor c on; where there are none, it may be any cursor
+abbrev pub Left : List ℕ → BitCursor → List Found → Type 0
+Left s c xs = 0 < length xs → Listed (inside s c) c xs
 
 abbrev pub rest : List Found → List Found
 rest [] = []
 rest (x ∷ xs) = xs
 
-module _ {s : List ℕ} where
-  pub never-ended : {c next : BitCursor} {xs : List Found} → Turns s c xs → 0 < length xs → stepAt s c ≡ PayloadStep.End next → ⊥
-  never-ended none h e = omega arith
-  never-ended (more f t) h e = let w : _≡_ {A = ℕ} 0 1 = cc in omega arith
+-- a turn: the payload's record is the next one
+pub record Turned (s : List ℕ) (xs : List Found) (next : BitCursor) (r : PayloadRecord) : Type 0 where
+  pub left : Left s next (rest xs)
+  pub records : recordsOf xs ≡ r ∷ recordsOf (rest xs)
+  pub count : length xs ≡ suc (length (rest xs))
 
-  pub never-refused : {c : BitCursor} {why : EmdfError} {xs : List Found} → Turns s c xs → 0 < length xs → stepAt s c ≡ PayloadStep.Refused why → ⊥
-  never-refused none h e = omega arith
-  never-refused (more f t) h e = let w : _≡_ {A = ℕ} 0 2 = cc in omega arith
+turned-by : (s : List ℕ) (next : BitCursor) (r : PayloadRecord) (x : Found) (ys xs : List Found) → xs ≡ x ∷ ys → x .record-of ≡ r → Listed (inside s next) next ys → Turned s xs next r
+unfolding recordsOf
+turned-by s next r x ys xs e f m = rw e (record { left = λ _. m; records = rw f; count = refl })
 
-  -- a turn: the payload's record is the next one
-  pub turned : {c next : BitCursor} {r : PayloadRecord} {xs : List Found} → Turns s c xs → 0 < length xs → stepAt s c ≡ PayloadStep.Payload r next
-      → Turns s next (rest xs) × (recordsOf xs ≡ r ∷ recordsOf (rest xs)) × (length xs ≡ suc (length (rest xs)))
-  unfolding recordsOf
-  turned none h e = absurd (omega arith)
-  turned {next = next} {r = r} (more {next = next′} {x = x} f t) h e =
-      let a : x .record-of ≡ r = cc in
-      let b : next′ ≡ next = cc in
-      (rw b at t, rw a, refl)
+module _ (s : List ℕ) (c : BitCursor) (xs : List Found) (l : Left s c xs) (some : 0 < length xs) where
+  pub never-ended : {next : BitCursor} → stepAt (inside s c) c ≡ PayloadStep.End next → ⊥
+  never-ended h = let e = step-ended (inside s c) c xs (l some) h in let z : length xs ≡ 0 = rw e in omega arith
+
+  pub never-refused : {why : EmdfError} → stepAt (inside s c) c ≡ PayloadStep.Refused why → ⊥
+  never-refused h = step-refused (inside s c) c xs (l some) h
+
+  pub turned : {next : BitCursor} {r : PayloadRecord} → stepAt (inside s c) c ≡ PayloadStep.Payload r next → Turned s xs next r
+  turned {next} {r} h =
+      let f = step-found (inside s c) c xs (l some) h in
+      let m : Listed (inside s next) next (f .others) = subst (λ (e : ℕ). Listed (take (e / 8) s) next (f .others)) (sym (f .end)) (f .listed) in
+      turned-by s next r (f .first) (f .others) xs (f .is) (f .record-is) m
 
 -- ---- what the plan says of the table
 
@@ -93,16 +87,19 @@ pub record Planned (s : List ℕ) (rows : ℕ) (x : Reading) : Type 0 where
   pub answer : planOf rows s x .answer ≡ recordsAnswer (inTable rows x)
   pub count : planOf rows s x .count ≡ length (planned (inTable rows x))
   pub room : planOf rows s x .count ≤ rows
-  pub turns : Turns s (planOf rows s x .first) (planned (inTable rows x))
+  pub left : Left s (planOf rows s x .first) (planned (inTable rows x))
 
 pub plan-is : (s : List ℕ) (rows : ℕ) (x : Reading) → reading s ≡ x → Planned s rows x
 unfolding planOf rowsPlan noRows inTable recordsAnswer containerOf
-plan-is s rows (refusal why) h = record { answer = refl; count = refl; room = omega arith; turns = none }
+plan-is s rows (refusal why) h = record { answer = refl; count = refl; room = omega arith; left = λ h. absurd (omega arith) }
 plan-is s rows (accepted n c) h = go (leb (length (c .found)) rows) refl
   where
+    all-listed : Listed (inside s (firstPayload n s)) (firstPayload n s) (c .found)
+    all-listed = let d = read-first s n c h in let z : firstPayload n s .end / 8 ≡ n = omega (arith, d .1) in rw z (d .0)
+
     go : (t : Bool) → leb (length (c .found)) rows ≡ t → Planned s rows (accepted n c)
-    go true e = record { answer = rw e; count = rw e; room = rw e (leb→le _ _ (T-of e)); turns = rw e (let d = read-first s n c h in turns-of s n _ (c .found) (d .1) (d .0)) }
-    go false e = record { answer = rw e; count = rw e; room = rw e (omega arith); turns = rw e none }
+    go true e = record { answer = rw e; count = rw e; room = rw e (leb→le _ _ (T-of e)); left = rw e (λ _. all-listed) }
+    go false e = record { answer = rw e; count = rw e; room = rw e (omega arith); left = rw e (λ h. absurd (omega arith)) }
 
 length-records : (xs : List Found) → length (recordsOf xs) ≡ length xs
 unfolding recordsOf

@@ -8,10 +8,12 @@ use Rattle.openjoc_bitio.specs.declared.BitCursor.{BitCursor}
 use Rattle.openjoc_bitio.proofs.Bits.{value-range}
 use Rattle.emdf_format.specs.Reader.{got, cursorAt, _>>=_, give, ask}
 use Rattle.emdf_format.specs.declared.EmdfError.{EmdfError}
+use Rattle.emdf_format.specs.declared.PayloadRecord.{PayloadRecord}
 use Rattle.emdf_format.specs.Reading.{Found, Container, Reading, accepted, refusal, reading, payloads}
 use Rattle.emdf_format.proofs.Standing.{taken, bind-inv, ask-inv, asked, give-inv}
 use Rattle.emdf_format.proofs.Carrier.{read-contained, read-limit, read-size}
 use Rattle.openjoc_emdf.specs.Answers.{fieldAnswer, Turn, ended, found, nextPayload, turnFound, turnAnswer, parsedEmdf, parseAnswer, reachedBy, firstPayload, openAnswer, parseError}
+use Rattle.openjoc_emdf.specs.declared.PayloadStep.{PayloadStep}
 use Rattle.openjoc_emdf.specs.declared.PayloadStep.the-variants as PayloadStep
 use Rattle.openjoc_emdf.specs.declared.ParsedEmdf.{ParsedEmdf}
 use Rattle.openjoc_emdf.specs.declared.ParseAnswer.{ParseAnswer}
@@ -71,6 +73,39 @@ module _ (s : List ℕ) (c : BitCursor) where
               taken (bind-inv t₁) λ ys q₂ h₂ t₂.
               absurd (let w : _≡_ {A = ℕ} 0 1 = cc (give-inv t₂ .what) in omega arith)
 
+-- ---- what a step says of the payloads
+
+abbrev pub stepAt : List ℕ → BitCursor → PayloadStep
+stepAt s c = turnAnswer (c .end) (nextPayload s (c .end) (c .position))
+
+-- a step that finds a payload finds the first of them
+pub record First (s : List ℕ) (c next : BitCursor) (r : PayloadRecord) (xs : List Found) : Type 0 where
+  pub first : Found
+  pub others : List Found
+  pub is : xs ≡ first ∷ others
+  pub record-is : first .record-of ≡ r
+  pub end : next .end ≡ c .end
+  pub listed : Listed s next others
+
+module _ (s : List ℕ) (c : BitCursor) where
+  pub step-found : {r : PayloadRecord} {next : BitCursor} (xs : List Found) → Listed s c xs → stepAt s c ≡ PayloadStep.Payload r next → First s c next r xs
+  step-found [] l h = let (d, e) = listed-end s c l in absurd (let w : _≡_ {A = ℕ} 0 1 = cc in omega arith)
+  step-found {r} {next} (x ∷ xs) l h =
+      let d = listed-step s c x xs l in
+      let i : PayloadStep.Payload (x .record-of) (d .next) ≡ PayloadStep.Payload r next = sym (d .is) ∙ h in
+      let a : x .record-of ≡ r = cc in
+      let b : d .next ≡ next = cc in
+      record { first = x; others = xs; is = refl; record-is = a; end = rw (← b) (d .end); listed = rw b at (d .listed) }
+
+  pub step-ended : {next : BitCursor} (xs : List Found) → Listed s c xs → stepAt s c ≡ PayloadStep.End next → xs ≡ []
+  step-ended [] l h = refl
+  step-ended (x ∷ xs) l h = let d = listed-step s c x xs l in absurd (let w : _≡_ {A = ℕ} 0 1 = cc (d .is) in omega arith)
+
+  -- no payload of a list that is read is refused
+  pub step-refused : {why : EmdfError} (xs : List Found) → Listed s c xs → stepAt s c ≡ PayloadStep.Refused why → ⊥
+  step-refused [] l h = let (d, e) = listed-end s c l in let w : _≡_ {A = ℕ} 0 1 = cc in omega arith
+  step-refused (x ∷ xs) l h = let d = listed-step s c x xs l in let w : _≡_ {A = ℕ} 0 1 = cc (d .is) in omega arith
+
 -- ---- what opening a carrier says
 
 accepted-is : (x : Reading) {p : ParsedEmdf} → parseAnswer x ≡ ParseAnswer.Parsed p → (c : Container) × (x ≡ accepted (p .«bytes_consumed» .0) c) × (parsedEmdf (p .«bytes_consumed» .0) c ≡ p)
@@ -108,3 +143,33 @@ read-first s n c h =
     let a = rw z at (k .key-read) in
     let b = rw z at (k .list-read) in
     rw a (record { bound = k .bound; to = k .codes-at; is = b }, refl)
+
+-- ---- what opening a carrier says to its caller
+
+pub record Opened (s : List ℕ) (p : ParsedEmdf) (first : BitCursor) : Type 0 where
+  pub container : Container
+  pub is : reading s ≡ accepted (p .«bytes_consumed» .0) container
+  pub parsed : parsedEmdf (p .«bytes_consumed» .0) container ≡ p
+  pub there : p .«bytes_consumed» .0 ≤ length s
+  pub end : first .end ≡ p .«bytes_consumed» .0 * 8
+  pub listed : Listed (take (p .«bytes_consumed» .0) s) first (container .found)
+
+pub opened : (s : List ℕ) {p : ParsedEmdf} {first : BitCursor} → openAnswer s (reading s) ≡ OpenAnswer.Open p first → Opened s p first
+unfolding openAnswer
+opened s {p} {first} h = go (reading s) refl h
+  where
+    go : (x : Reading) → reading s ≡ x → openAnswer s x ≡ OpenAnswer.Open p first → Opened s p first
+    go (accepted n c) r h =
+        let a : parsedEmdf n c ≡ p = cc in
+        let b : firstPayload n s ≡ first = cc in
+        let f = read-first s n c r in
+        rw (← a, ← b) (record { container = c; is = r; parsed = refl; there = read-limit s n c r .0; end = f .1; listed = f .0 })
+    go (refusal why) r h = absurd (let w : _≡_ {A = ℕ} 0 1 = cc in omega arith)
+
+pub unopened : (s : List ℕ) {why : EmdfError} → openAnswer s (reading s) ≡ OpenAnswer.Refused why → reading s ≡ refusal why
+unfolding openAnswer
+unopened s {why} h = go (reading s) refl h
+  where
+    go : (x : Reading) → reading s ≡ x → openAnswer s x ≡ OpenAnswer.Refused why → reading s ≡ refusal why
+    go (accepted n c) r h = absurd (let w : _≡_ {A = ℕ} 0 1 = cc in omega arith)
+    go (refusal why′) r h = let a : why′ ≡ why = cc in rw a at r

@@ -53,10 +53,10 @@ use Rattle.emdf_format.specs.Calls.{tableAfter}
 use Rattle.emdf_format.specs.declared.PayloadRecord.{PayloadRecord}
 use Rattle.openjoc_emdf.specs.declared.PayloadStep.{PayloadStep}
 use Rattle.openjoc_emdf.specs.declared.PayloadStep.the-variants.{Payload, End, Refused}
-use Rattle.emdf_records.specs.Records.{recordsAnswer}
+use Rattle.openjoc_emdf.proofs.Walk.{stepAt}
 use Rattle.emdf_records.specs.declared.RecordsAnswer.{RecordsAnswer}
 use Rattle.emdf_records.specs.declared.RecordsPlan.{RecordsPlan}
-use Rattle.emdf_records.proofs.Records.{stepAt, never-ended, never-refused, plan-is}
+use Rattle.emdf_records.proofs.Records.{inside, never-ended, never-refused, plan-is}
 use Rattle.emdf_records.proofs.Row.{Record, recordTy, recordVal, record-tells, record-made, record-typed, row-fits, row-place, Cursor, cursorTy, cursorVal, cursor-made, cursor-typed, Step, stepTy, stepVal, step-tells, step-typed, step-record, step-cursor, Answer, answerTy, answerVal, answer-made, answer-typed, Plan, planTy, planVal, plan-tells, plan-typed, plan-answer, plan-first}
 use Rattle.emdf_records.proofs.Fill.{plan, done as left-by, State, room as plan-room, start, some-left, next, nearer, over}
 use Rattle.emdf_records.proofs.plan_records as planner
@@ -183,8 +183,8 @@ module _ {M : Type 1} (𝓤 : URA M) (H : Heap 𝓤) (A : Atoms 𝓤) (W : Given
       qed W (‵ (flft κ₀ q₀) ∷ ‵ Own ∷ []) ∵ nothing ! $ owned ! Cursor (Is Cursor) (cursor-made 𝓤 H A) c _ is $ fjoin ! $ move ! (2 ∷ 0 ∷ []) $ fjoin ! $
       nothing ! $ move ! (2 ∷ 0 ∷ []) $ join ! $ join ! $ frame ! $ done !
 
-  said-step : (c : BitCursor) (g : PayloadStep) → ent 𝓤 (ensured 𝓤 H A step.ended (step.clauses 𝓤 H A mem run) (κ₀, tt) (sx, (c, tt)) tt g) (fact 𝓤 (g ≡ stepAt (now sx) c))
-  said-step c g = exE 𝓤 _ (λ ws. snd∗ 𝓤 (sem 𝓤 H A (lasts step.ended (κ₀, tt) (sx, (c, tt)) ws)) (fact 𝓤 (g ≡ stepAt (now sx) c)))
+  said-step : (c : BitCursor) (g : PayloadStep) → ent 𝓤 (ensured 𝓤 H A step.ended (step.clauses 𝓤 H A mem run) (κ₀, tt) (sx, (c, tt)) tt g) (fact 𝓤 (g ≡ stepAt (inside (now sx) c) c))
+  said-step c g = exE 𝓤 _ (λ ws. snd∗ 𝓤 (sem 𝓤 H A (lasts step.ended (κ₀, tt) (sx, (c, tt)) ws)) (fact 𝓤 (g ≡ stepAt (inside (now sx) c) c)))
 
   abbrev Nearer : St → St → Type 0
   Nearer j i = planning .count - j .k < planning .count - i .k
@@ -240,7 +240,7 @@ module _ {M : Type 1} (𝓤 : URA M) (H : Heap 𝓤) (A : Atoms 𝓤) (W : Given
         Turned st = afterTurn 𝓤 H (Below 𝓤 H A Nearer At st) (afterBlock 𝓤 H (afterSeq 𝓤 H (Wp 𝓤 H C Λ En rest (atReturn 𝓤 H En Post)) (atReturn 𝓤 H En Post)))
 
         -- what the step found: a payload, since one is left
-        on-step : (st : St) → st .k < planning .count → (g : PayloadStep) → stepAt (now sx) (st .at) ≡ g → Is Step g (stepVal g ∷ [])
+        on-step : (st : St) → st .k < planning .count → (g : PayloadStep) → stepAt (inside (now sx) (st .at)) (st .at) ≡ g → Is Step g (stepVal g ∷ [])
             → Sq W (Base st (‵ (fat fullShare stepTy l₆ 0 (stepVal g)))) (runs C Λ En found (anyQ (Turned st)))
         unfolding afterTurn
         on-step st less (Payload r c) e is =
@@ -268,8 +268,8 @@ module _ {M : Type 1} (𝓤 : URA M) (H : Heap 𝓤) (A : Atoms 𝓤) (W : Given
 
             k-fits : st .k + 1 < 2 ^ 64
             k-fits = omega (arith, in-xs, room .0, row-fits room in-xs)
-        on-step st less (End c) e is = absurd (never-ended (st .turns) (some-left (now sx) xs st less) e)
-        on-step st less (Refused why) e is = absurd (never-refused (st .turns) (some-left (now sx) xs st less) e)
+        on-step st less (End c) e is = absurd (never-ended (now sx) (st .at) (st .left) (st .ahead) (some-left (now sx) xs st less) e)
+        on-step st less (Refused why) e is = absurd (never-refused (now sx) (st .at) (st .left) (st .ahead) (some-left (now sx) xs st less) e)
 
         turns : (st : St) → Sq W (At st) (runs C Λ En turn (anyQ (Turned st)))
         unfolding afterTurn
@@ -280,7 +280,7 @@ module _ {M : Type 1} (𝓤 : URA M) (H : Heap 𝓤) (A : Atoms 𝓤) (W : Given
             move ! (5 ∷ []) $ use1 W (‵ Own ⊛ ‵ Own) (shr-slice-copy 𝓤 H A W (named 0) κ₀ u8 .twice sx (sv ∷ [])) $ split ! $ move ! (6 ∷ 0 ∷ []) $ use2 W (raw (StepAt 𝓤 H A mem run .pre (to-step (st .at)))) (goes-step (st .at) (st .at-is)) $
             calls-at ! (fmOf 𝓤 H (W .laws) 𝓣) (StepAt 𝓤 H A mem run) known-step (to-step (st .at)) (and-then ! (load ! (from ! (stop !)) (look ! 28 refl)) (and-then ! (load ! (from ! (stop !)) (look ! 20 refl)) (no-more !))) (λ u.
             use1 W (later (some (λ (g : PayloadStep). ((‵ (flft κ₀ q₀) ⊛ ‵ ftrue) ⊛ ‵ (Step .own g (u ∷ []))) ⊛ raw (ensured 𝓤 H A step.ended (step.clauses 𝓤 H A mem run) (κ₀, tt) (sx, (st .at, tt)) tt g)))) (id⊢ 𝓤 _) $ await ! tt $ pick ! (λ g.
-            split ! $ move ! (1 ∷ []) $ use1 W (raw (fact 𝓤 (g ≡ stepAt (now sx) (st .at)))) (said-step (st .at) g) $ heard ! (g ≡ stepAt (now sx) (st .at)) (λ e. split ! $ move ! (1 ∷ []) $
+            split ! $ move ! (1 ∷ []) $ use1 W (raw (fact 𝓤 (g ≡ stepAt (inside (now sx) (st .at)) (st .at)))) (said-step (st .at) g) $ heard ! (g ≡ stepAt (inside (now sx) (st .at)) (st .at)) (λ e. split ! $ move ! (1 ∷ []) $
             peeks ! Step (Is Step) (shows 𝓤 H A Step) g (u ∷ []) (λ is. land ! (from ! (stop !)) (init ! 19 refl (step-typed 𝓤 H A W g u is)) $
             rewrite ! 19 (λ (v : Val). ‵ (fat fullShare stepTy l₆ 0 v)) (ap only (step-tells g (u ∷ []) is)) refl $ move ! (1 ∷ []) $ split ! $
             -- [bytes' token; true; what the result owns; what bytes owns; the row; the open borrow; obs; auth; room for _12; …]

@@ -1,0 +1,277 @@
+-- Laws of the answers on carriers. Assumes nothing.
+use mathlib.Core.Path.{_≡_, refl, sym, ap, _∙_}
+use mathlib.Core.List.{List, [], _∷_, _++_}
+use Prim.Native.Nat.{ℕ, zero, suc, _+_, _*_, _/_, _<_, _≤_}
+use native.Mathlib.Nat.{zero-add}
+use native.Mathlib.Omega.{arith}
+use borrow.Author.Tests.{le-leb, lt-leb}
+use lib.ListN.{length, take, drop, getD, length-append}
+use lib.Seq.{sets, sets-eq}
+use Rattle.openjoc_bitio.specs.declared.ByteCount.{ByteCount}
+use Rattle.openjoc_bitio.specs.declared.BitCursor.{BitCursor}
+use Rattle.openjoc_bitio.specs.declared.BitError.{BitError}
+use Rattle.openjoc_bitio.specs.declared.BitError.the-variants as BitError
+use Rattle.openjoc_bitio.specs.Cursor as bit
+use Rattle.emdf_format.specs.Reading.{Found, Container, Reading, accepted, refusal, reading}
+use Rattle.emdf_format.specs.Calls.{number, figures, recordsNumber, recordsFigures, bodyNumber, bodyFigures, recordsOf, inTable, Records, unrecorded, Class, nonEmdf, parsed, trailingData, malformed}
+use Rattle.emdf_format.specs.declared.EmdfError.{EmdfError}
+use Rattle.emdf_format.specs.declared.EmdfError.the-variants.{TruncatedContainer, InvalidSyncword, Bit, InvalidVariableBits, VariableBitsGroupLimit, ValueOverflow, UnsupportedVersion, NonzeroReservedData, ReservedPrimaryProtectionLength, ExcessPadding, NonzeroPadding}
+use Rattle.emdf_format.specs.declared.RecordsError.{RecordsError}
+use Rattle.emdf_format.specs.declared.RecordsError.the-variants.{Emdf, TableTooShort}
+use Rattle.emdf_format.specs.declared.BodyError.{BodyError}
+use Rattle.emdf_format.specs.declared.BodyAnswer.{BodyAnswer}
+use Rattle.emdf_format.specs.declared.BodyAnswer.the-variants as BodyAnswer
+use Rattle.emdf_format.specs.declared.Optional.{Optional}
+use Rattle.emdf_format.specs.declared.Optional.the-variants.{Absent, Present}
+use Rattle.emdf_format.specs.declared.EmdfPayloadConfig.{EmdfPayloadConfig}
+use Rattle.emdf_format.specs.declared.PayloadRecord.{PayloadRecord}
+use Rattle.openjoc_emdf.specs.Answers.{nextPayload, turnAnswer, parsedEmdf, containerOf, openAnswer, classAnswer}
+use Rattle.openjoc_emdf.specs.declared.ParsedEmdf.{ParsedEmdf}
+use Rattle.openjoc_emdf.specs.declared.OpenAnswer.the-variants as OpenAnswer
+use Rattle.openjoc_emdf.specs.declared.PayloadStep.{PayloadStep}
+use Rattle.openjoc_emdf.specs.declared.PayloadStep.the-variants as PayloadStep
+use Rattle.openjoc_emdf.specs.declared.CarrierClassification.{CarrierClassification}
+use Rattle.openjoc_emdf.specs.declared.CarrierClassification.the-variants as CarrierClassification
+use Rattle.openjoc_emdf.proofs.Walk.{Listed, listed-step, Opened, opened, unopened}
+use Rattle.emdf_host.specs.Form.{bigEndian, words}
+use Rattle.emdf_host.specs.Bits.{figured}
+use Rattle.emdf_host.specs.Carriers.{padded, parsedWords, readInto, readNumber, readWords, optionalWords, configWords, traceWords, recordWords, rowsBytes, rowsAfter, classNumber, classWords, moveNumber, moveWords}
+use Rattle.emdf_host.specs.declared.Figures.{Figures}
+use Rattle.emdf_host.proofs.Form.{length-words, sets-append, words-stored, words-then, elements-all}
+
+-- ---- a row
+
+-- a setting's two numbers, and what follows them
+pub optional-then : (o : Optional) {a b : ℕ} {xs ys : List ℕ} → a ≡ getD (optionalWords o) 0 0 → b ≡ getD (optionalWords o) 1 0 → xs ≡ ys → a ∷ b ∷ xs ≡ optionalWords o ++ ys
+unfolding optionalWords
+optional-then Absent e f g = rw (e, f, g)
+optional-then (Present v) e f g = rw (e, f, g)
+
+length-optional : (o : Optional) → length (optionalWords o) ≡ 2
+unfolding optionalWords
+length-optional Absent = refl
+length-optional (Present v) = refl
+
+length-config : (t : EmdfPayloadConfig) → length (configWords t) ≡ 18
+unfolding configWords
+length-config t = simp (length-append, length-optional)
+
+length-record : (r : PayloadRecord) → length (words (recordWords r)) ≡ 216
+unfolding recordWords traceWords
+length-record r = length-words (recordWords r) ∙ simp (length-append, length-config)
+
+pub record-stored : (l : List ℕ) (at : ℕ) (r : PayloadRecord)
+    → sets (sets (sets l at (bigEndian 8 (r .id))) (at + 8) (words (configWords (r .config)))) (at + 152) (words (traceWords (r .trace))) ≡ sets l at (words (recordWords r))
+unfolding recordWords
+record-stored l at r =
+    rw words-stored (words-then l at (r .id ∷ configWords (r .config)) (traceWords (r .trace)) (rw length-config))
+
+-- ---- the rows
+
+rows-stored : (l : List ℕ) (i : ℕ) (x : Found) (xs : List Found)
+    → sets (sets l (i * 216) (words (recordWords (x .record-of)))) ((i + 1) * 216) (rowsBytes (recordsOf xs)) ≡ sets l (i * 216) (rowsBytes (recordsOf (x ∷ xs)))
+unfolding rowsBytes recordsOf
+rows-stored l i x xs =
+    let e : (i + 1) * 216 ≡ i * 216 + length (words (recordWords (x .record-of))) = omega (arith, length-record (x .record-of)) in
+    rw e (sets-append l (i * 216) (words (recordWords (x .record-of))) (rowsBytes (recordsOf xs)))
+
+length-rows : (xs : List Found) → length (rowsBytes (recordsOf xs)) ≡ 216 * length xs
+unfolding rowsBytes recordsOf
+length-rows [] = refl
+length-rows (x ∷ xs) = rw length-append (omega (arith, length-record (x .record-of), length-rows xs))
+
+rows-after : (l : List ℕ) (xs : List Found) → length xs * 216 ≤ length l → sets l 0 (rowsBytes (recordsOf xs)) ≡ rowsBytes (recordsOf xs) ++ drop (216 * length xs) l
+rows-after l xs h =
+    sets-eq (rowsBytes (recordsOf xs)) l 0 (omega (arith, length-rows xs)) ∙ rw (length-rows, zero-add)
+
+-- the payloads from the cursor at on, whose rows from the i-th on complete the table
+pub record Left (s : List ℕ) (at : BitCursor) (i count : ℕ) (table complete : List ℕ) : Type 0 where
+  found : List Found
+  listed : Listed s at found
+  counted : i + length found ≡ count
+  rows : sets table (i * 216) (rowsBytes (recordsOf found)) ≡ complete
+
+pub left-all : {s table : List ℕ} {c : BitCursor} {count : ℕ} (xs : List Found) → Listed s c xs → length xs ≡ count → Left s c 0 count table (sets table 0 (rowsBytes (recordsOf xs)))
+left-all xs l e = record { found = xs; listed = l; counted = omega arith; rows = refl }
+
+abbrev stepAt : List ℕ → BitCursor → PayloadStep
+stepAt s c = turnAnswer (c .end) (nextPayload s (c .end) (c .position))
+
+module _ {s table complete : List ℕ} {at : BitCursor} {i count : ℕ} where
+  pub left-payload : Left s at i count table complete → i < count → (row : PayloadRecord) × (next : BitCursor) × (stepAt s at ≡ PayloadStep.Payload row next)
+  left-payload l h = go (l .found) (l .listed) (l .counted)
+    where
+      go : (xs : List Found) → Listed s at xs → i + length xs ≡ count → (row : PayloadRecord) × (next : BitCursor) × (stepAt s at ≡ PayloadStep.Payload row next)
+      go [] k e = absurd (omega arith)
+      go (x ∷ xs) k e = let d = listed-step s at x xs k in (x .record-of, d .next, d .is)
+
+  pub left-step : {row : PayloadRecord} {next : BitCursor} {table′ : List ℕ} → stepAt s at ≡ PayloadStep.Payload row next → table′ ≡ sets table (i * 216) (words (recordWords row)) → i < count
+      → Left s at i count table complete → Left s next (i + 1) count table′ complete
+  left-step {row} {next} {table′} e f h l = go (l .found) (l .listed) (l .counted) (l .rows)
+    where
+      go : (xs : List Found) → Listed s at xs → i + length xs ≡ count → sets table (i * 216) (rowsBytes (recordsOf xs)) ≡ complete → Left s next (i + 1) count table′ complete
+      go [] k n r = absurd (omega arith)
+      go (x ∷ xs) k n r =
+          let d = listed-step s at x xs k in
+          let a : x .record-of ≡ row = cc (d .is) in
+          let b : d .next ≡ next = cc (d .is) in
+          record { found = xs; listed = rw b at (d .listed); counted = omega arith; rows = rw (f, ← a) (rows-stored table i x xs ∙ r) }
+
+  pub left-none : count ≤ i → Left s at i count table complete → table ≡ complete
+  unfolding rowsBytes recordsOf
+  left-none h l = go (l .found) (l .counted) (l .rows)
+    where
+      go : (xs : List Found) → i + length xs ≡ count → sets table (i * 216) (rowsBytes (recordsOf xs)) ≡ complete → table ≡ complete
+      go [] e r = r
+      go (x ∷ xs) e r = absurd (omega arith)
+
+-- ---- refusals
+
+two-figures-of-bits : (why : BitError) → length (bit.figures why) ≤ 2
+unfolding bit.figures
+two-figures-of-bits (BitError.EndOfInput requested remaining) = omega arith
+two-figures-of-bits (BitError.InvalidWidth width) = omega arith
+
+two-figures : (why : EmdfError) → length (figures why) ≤ 2
+unfolding figures
+two-figures (TruncatedContainer declared available) = omega arith
+two-figures (InvalidSyncword actual) = omega arith
+two-figures (Bit why) = two-figures-of-bits why
+two-figures (InvalidVariableBits width limit) = omega arith
+two-figures (VariableBitsGroupLimit width limit) = omega arith
+two-figures ValueOverflow = omega arith
+two-figures (UnsupportedVersion version) = omega arith
+two-figures NonzeroReservedData = omega arith
+two-figures ReservedPrimaryProtectionLength = omega arith
+two-figures (ExcessPadding bits) = omega arith
+two-figures NonzeroPadding = omega arith
+
+-- what a refusal's first two figures leave out is 0
+padded-figures : (n : ℕ) (fs : List ℕ) → length fs ≤ 2 → padded (suc (suc n)) (getD fs 0 0 ∷ getD fs 1 0 ∷ []) ≡ padded (suc (suc n)) fs
+unfolding padded
+padded-figures n [] h = refl
+padded-figures n (a ∷ []) h = refl
+padded-figures n (a ∷ b ∷ []) h = refl
+padded-figures n (a ∷ b ∷ d ∷ fs) h = absurd (omega arith)
+
+-- the code's figures are the definition's
+figured-words : (n : ℕ) (fs : List ℕ) {f : Figures} → length fs ≤ 2 → f ≡ figured n fs → padded 9 (f .first ∷ f .second ∷ []) ≡ padded 9 fs
+figured-words n fs h e = rw e (padded-figures 7 fs h)
+
+-- ---- class
+
+module _ {x : CarrierClassification} where
+  pub none-words : x ≡ CarrierClassification.NonEmdf → (k : Class) → x ≡ classAnswer k → padded 10 [] ≡ classWords k
+  unfolding classAnswer classWords
+  none-words e nonEmdf h = refl
+  none-words e (parsed n c) h = absurd (let w : _≡_ {A = ℕ} 0 1 = cc in omega arith)
+  none-words e (trailingData n len) h = absurd (let w : _≡_ {A = ℕ} 0 1 = cc in omega arith)
+  none-words e (malformed why) h = absurd (let w : _≡_ {A = ℕ} 0 1 = cc in omega arith)
+
+  pub parsed-class : {p : ParsedEmdf} {w : List ℕ} → x ≡ CarrierClassification.Parsed p → ((n : ℕ) (c : Container) → p ≡ parsedEmdf n c → w ≡ parsedWords n c)
+      → (k : Class) → x ≡ classAnswer k → 1 ∷ w ≡ classWords k
+  unfolding classAnswer classWords
+  parsed-class e f nonEmdf h = absurd (let w : _≡_ {A = ℕ} 0 1 = cc in omega arith)
+  parsed-class {p} e f (parsed n c) h = let a : p ≡ parsedEmdf n c = cc in rw (f n c a)
+  parsed-class e f (trailingData n len) h = absurd (let w : _≡_ {A = ℕ} 0 1 = cc in omega arith)
+  parsed-class e f (malformed why) h = absurd (let w : _≡_ {A = ℕ} 0 1 = cc in omega arith)
+
+  pub trailing-words : {n len : ByteCount} → x ≡ CarrierClassification.TrailingData n len → (k : Class) → x ≡ classAnswer k → 2 ∷ padded 9 (n .0 ∷ len .0 ∷ []) ≡ classWords k
+  unfolding classAnswer classWords padded
+  trailing-words e nonEmdf h = absurd (let w : _≡_ {A = ℕ} 0 1 = cc in omega arith)
+  trailing-words e (parsed n c) h = absurd (let w : _≡_ {A = ℕ} 0 1 = cc in omega arith)
+  trailing-words {n} {len} e (trailingData m k) h =
+      let a : n .0 ≡ m = cc in
+      let b : len .0 ≡ k = cc in
+      rw (a, b)
+  trailing-words e (malformed why) h = absurd (let w : _≡_ {A = ℕ} 0 1 = cc in omega arith)
+
+  malformed-is : {why : EmdfError} → x ≡ CarrierClassification.Malformed why → (k : Class) → x ≡ classAnswer k → k ≡ malformed why
+  unfolding classAnswer
+  malformed-is e nonEmdf h = absurd (let w : _≡_ {A = ℕ} 0 1 = cc in omega arith)
+  malformed-is e (parsed n c) h = absurd (let w : _≡_ {A = ℕ} 0 1 = cc in omega arith)
+  malformed-is e (trailingData n len) h = absurd (let w : _≡_ {A = ℕ} 0 1 = cc in omega arith)
+  malformed-is e (malformed why) h = cc
+
+  pub malformed-words : {why : EmdfError} {f : Figures} → x ≡ CarrierClassification.Malformed why → f ≡ figured (number why) (figures why)
+      → (k : Class) → x ≡ classAnswer k → 3 ∷ padded 9 (f .first ∷ f .second ∷ []) ≡ classWords k
+  unfolding classWords padded
+  malformed-words {why} e d k h = rw (malformed-is e k h) (ap (λ (l : List ℕ). 3 ∷ l) (figured-words (number why) (figures why) (two-figures why) d))
+
+  pub malformed-number : {why : EmdfError} {f : Figures} → x ≡ CarrierClassification.Malformed why → f ≡ figured (number why) (figures why) → (k : Class) → x ≡ classAnswer k → f .number ≡ classNumber k
+  unfolding classNumber
+  malformed-number e d k h = rw (malformed-is e k h, d)
+
+-- ---- a reading
+
+-- the three promises of a reading
+abbrev Answers : Records → ℕ → List ℕ → List ℕ → List ℕ → Type 0
+Answers t r answer table table′ = (r ≡ readNumber t) × (answer ≡ words (readWords t)) × (table′ ≡ rowsAfter t table)
+
+module _ (s table : List ℕ) where
+  -- a refusal leaves the table
+  refused-answers : (why : RecordsError) {r : ℕ} {answer : List ℕ} {f : Figures} → readInto s table ≡ unrecorded why → f ≡ figured (recordsNumber why) (recordsFigures why)
+      → (r ≡ f .number) × (answer ≡ words (padded 9 (f .first ∷ f .second ∷ []))) → Answers (readInto s table) r answer table table
+  unfolding readNumber readWords rowsAfter recordsFigures
+  refused-answers why e d w = rw e (w .0 ∙ rw d, w .1 ∙ ap words (figured-words (recordsNumber why) (recordsFigures why) (two why) d), refl)
+    where
+      two : (why : RecordsError) → length (recordsFigures why) ≤ 2
+      two (Emdf y) = two-figures y
+      two (TableTooShort n) = omega arith
+
+  pub refused-carrier : {why : EmdfError} {r : ℕ} {answer : List ℕ} {f : Figures} → openAnswer s (reading s) ≡ OpenAnswer.Refused why → f ≡ figured (number why) (figures why)
+      → (r ≡ f .number) × (answer ≡ words (padded 9 (f .first ∷ f .second ∷ []))) → Answers (readInto s table) r answer table table
+  unfolding readInto inTable recordsNumber recordsFigures
+  refused-carrier {why} h = refused-answers (Emdf why) (rw (unopened s h))
+
+  module _ {p : ParsedEmdf} {c : BitCursor} (h : openAnswer s (reading s) ≡ OpenAnswer.Open p c) where
+    abbrev n : ℕ
+    n = p .«bytes_consumed» .0
+
+    abbrev count : ℕ
+    count = p .container .payloads
+
+    abbrev o : Opened s p c
+    o = opened s h
+
+    counted : length (o .container .found) ≡ count
+    unfolding containerOf
+    counted = ap (λ (q : ParsedEmdf). q .container .payloads) (o .parsed)
+
+    pub refused-table : {r : ℕ} {answer : List ℕ} {f : Figures} → length table / 216 < count → f ≡ record { number = 13; first = count; second = 0 }
+        → (r ≡ f .number) × (answer ≡ words (padded 9 (f .first ∷ f .second ∷ []))) → Answers (readInto s table) r answer table table
+    unfolding readInto inTable recordsNumber recordsFigures
+    refused-table l = refused-answers (TableTooShort count) (rw (o .is, counted, lt-leb _ _ l))
+
+    pub read-carrier : {r : ℕ} {w answer table′ : List ℕ} → count ≤ length table / 216 → (r ≡ 0) × (answer ≡ words w) → ((n : ℕ) (k : Container) → p ≡ parsedEmdf n k → w ≡ parsedWords n k)
+        → ((xs : List Found) → Listed (take n s) c xs → length xs ≡ count → table′ ≡ sets table 0 (rowsBytes (recordsOf xs)))
+        → Answers (readInto s table) r answer table table′
+    unfolding readInto inTable readNumber readWords rowsAfter
+    read-carrier l e g f =
+        rw (o .is, counted, le-leb _ _ l)
+        (e .0, e .1 ∙ ap words (g n (o .container) (sym (o .parsed))), f (o .container .found) (o .listed) counted ∙ rows-after table (o .container .found) (omega (arith, counted)))
+
+-- ---- a body's move
+
+length-padded : (n : ℕ) (vs : List ℕ) → length (padded n vs) ≡ n
+unfolding padded
+length-padded zero vs = refl
+length-padded (suc n) [] = ap suc (length-padded n [])
+length-padded (suc n) (v ∷ vs) = ap suc (length-padded n vs)
+
+length-move : (m : BodyAnswer) → length (moveWords m) ≡ 2
+unfolding moveWords
+length-move (BodyAnswer.Body start len) = refl
+length-move (BodyAnswer.Refused why) = length-padded 2 (bodyFigures why)
+
+pub move-words : (m : BodyAnswer) {f : Figures} → f ≡ figured (moveNumber m) (moveWords m) → f .first ∷ f .second ∷ [] ≡ moveWords m
+move-words m e = rw e (rw (length-move m) at (elements-all (moveWords m)))
+
+pub move-figures : (why : BodyError) → figured (bodyNumber why) (bodyFigures why) ≡ figured (moveNumber (BodyAnswer.Refused why)) (moveWords (BodyAnswer.Refused why))
+unfolding moveNumber moveWords padded
+move-figures why = go (bodyFigures why)
+  where
+    go : (fs : List ℕ) → figured (bodyNumber why) fs ≡ figured (bodyNumber why) (padded 2 fs)
+    go [] = refl
+    go (a ∷ []) = refl
+    go (a ∷ b ∷ fs) = refl

@@ -1,0 +1,100 @@
+use borrow.Author.Needs.{needs}
+use mathlib.Core.Path.{refl, ap, _∙_}
+use mathlib.Core.List.{List, _∷_, append-nil, append-assoc}
+use Prim.Native.Nat.{ℕ}
+use Rattle.emdf_host.specs.Carriers.{configWords}
+use Rattle.emdf_host.proofs.Carriers.{optional-then}
+use Rattle.emdf_host.proofs.config_words.Statement.{statement}
+use Rattle.emdf_host.proofs.config_words.Tie as tie
+
+presence-requires : tie.Need-presence-requires
+presence-requires c κs = search needs
+
+value-or-zero-requires : tie.Need-value-or-zero-requires
+value-or-zero-requires c κs = search needs
+
+presence-requires-2 : tie.Need-presence-requires-2
+presence-requires-2 c κs = search needs
+
+value-or-zero-requires-2 : tie.Need-value-or-zero-requires-2
+value-or-zero-requires-2 c κs = search needs
+
+presence-requires-3 : tie.Need-presence-requires-3
+presence-requires-3 c κs = search needs
+
+value-or-zero-requires-3 : tie.Need-value-or-zero-requires-3
+value-or-zero-requires-3 c κs = search needs
+
+presence-requires-4 : tie.Need-presence-requires-4
+presence-requires-4 c κs = search needs
+
+value-or-zero-requires-4 : tie.Need-value-or-zero-requires-4
+value-or-zero-requires-4 c κs = search needs
+
+presence-requires-5 : tie.Need-presence-requires-5
+presence-requires-5 c κs = search needs
+
+value-or-zero-requires-5 : tie.Need-value-or-zero-requires-5
+value-or-zero-requires-5 c κs = search needs
+
+presence-requires-6 : tie.Need-presence-requires-6
+presence-requires-6 c κs = search needs
+
+value-or-zero-requires-6 : tie.Need-value-or-zero-requires-6
+value-or-zero-requires-6 c κs = search needs
+
+presence-requires-7 : tie.Need-presence-requires-7
+presence-requires-7 c κs = search needs
+
+value-or-zero-requires-7 : tie.Need-value-or-zero-requires-7
+value-or-zero-requires-7 c κs = search needs
+
+presence-requires-8 : tie.Need-presence-requires-8
+presence-requires-8 c κs = search needs
+
+value-or-zero-requires-8 : tie.Need-value-or-zero-requires-8
+value-or-zero-requires-8 c κs = search needs
+
+returns : tie.Need-returns
+unfolding configWords
+returns c =
+    let c₇ = c .before .before in
+    let c₆ = c₇ .before .before in
+    let c₅ = c₆ .before .before in
+    let c₄ = c₅ .before .before in
+    let c₃ = c₄ .before .before in
+    let c₂ = c₃ .before .before in
+    let c₁ = c₂ .before .before in
+    let t = c₁ .before .before .args .t in
+    simp append-assoc
+    (optional-then _ (c₁ .before .presence .ensures) (c₁ .value-or-zero .ensures)
+    (optional-then _ (c₂ .before .presence2 .ensures) (c₂ .value-or-zero2 .ensures)
+    (optional-then _ (c₃ .before .presence3 .ensures) (c₃ .value-or-zero3 .ensures)
+    (ap (λ (l : List ℕ). t .«codec_data_present» ∷ t .«discard_unknown_payload» ∷ l)
+    (optional-then _ (c₄ .before .presence4 .ensures) (c₄ .value-or-zero4 .ensures)
+    (optional-then _ (c₅ .before .presence5 .ensures) (c₅ .value-or-zero5 .ensures)
+    (optional-then _ (c₆ .before .presence6 .ensures) (c₆ .value-or-zero6 .ensures)
+    (optional-then _ (c₇ .before .presence7 .ensures) (c₇ .value-or-zero7 .ensures)
+    (optional-then _ (c .before .presence8 .ensures) (c .value-or-zero8 .ensures) refl ∙ append-nil _)))))))))
+
+pub config-words-spec : {M : Type 1} → statement M
+config-words-spec =
+    tie.close
+    (tie.spec
+    presence-requires
+    value-or-zero-requires
+    presence-requires-2
+    value-or-zero-requires-2
+    presence-requires-3
+    value-or-zero-requires-3
+    presence-requires-4
+    value-or-zero-requires-4
+    presence-requires-5
+    value-or-zero-requires-5
+    presence-requires-6
+    value-or-zero-requires-6
+    presence-requires-7
+    value-or-zero-requires-7
+    presence-requires-8
+    value-or-zero-requires-8
+    returns)

@@ -1,0 +1,5 @@
+pub mod Put
+pub mod Decimal
+pub mod Class
+pub mod Records
+pub mod Examples

@@ -1,0 +1,21 @@
+use borrow.Author.Needs.{needs}
+use Rattle.emdf_format.specs.Profile.{onOamd}
+use Rattle.joc_profile.proofs.on_oamd.Statement.{statement}
+use Rattle.joc_profile.proofs.on_oamd.Tie as tie
+
+enum-told : tie.Need-enum-told
+enum-told c = search needs
+
+enum-told-2 : tie.Need-enum-told-2
+enum-told-2 c = search needs
+
+returns : tie.Need-returns
+unfolding onOamd
+returns c = rw (c .enum-told .given .1)
+
+returns-2 : tie.Need-returns-2
+unfolding onOamd
+returns-2 c = rw (c .enum-told2 .given .1)
+
+pub on-oamd-spec : {M : Type 1} → statement M
+on-oamd-spec = tie.close (tie.spec enum-told enum-told-2 returns returns-2)
