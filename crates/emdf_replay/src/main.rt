@@ -1,6 +1,8 @@
-// Replays a list of the Rust original's answers against the calls that a C host has, and counts the cases that differ.
+// Replays lists of the Rust original's answers against the calls that a C host has, and counts the cases that differ.
 mod bits;
+mod carriers;
 mod list;
+mod words;
 
 ghost use mathlib.Core.Path.{_≡_};
 ghost use lib.ListN.{length};
@@ -16,6 +18,12 @@ const MOST_BYTES: usize = 1048576;
 // The most numbers on a line: 12 and the bytes of a case.
 const MOST_NUMBERS: usize = 4108;
 
+// What the cases of a list are.
+enum ListKind {
+    Bits,
+    Carriers,
+}
+
 // A line's case: where the next line starts, and whether the answers are the same.
 enum CaseAnswer {
     Case(usize, bool),
@@ -23,10 +31,11 @@ enum CaseAnswer {
 }
 
 fn main() {
-    replay_file(b"bits", b"bits.txt");
+    replay_file(ListKind::Bits, b"bits", b"bits.txt");
+    replay_file(ListKind::Carriers, b"carriers", b"carriers.txt");
 }
 
-fn replay_file(name: &[u8], path: &[u8]) {
+fn replay_file(kind: ListKind, name: &[u8], path: &[u8]) {
     let fd = os::open_read(path);
     if fd < 0 {
         os::fail(path);
@@ -37,7 +46,7 @@ fn replay_file(name: &[u8], path: &[u8]) {
     let whole = is_read(fd, path);
     libc::close(fd);
     if whole {
-        replay(name, &space[..n]);
+        replay(kind, name, &space[..n]);
     }
 }
 
@@ -64,14 +73,14 @@ fn list_space() -> [u8; MOST_BYTES]
     [0; MOST_BYTES]
 }
 
-fn replay(name: &[u8], text: &[u8]) {
+fn replay(kind: ListKind, name: &[u8], text: &[u8]) {
     let mut tally = Tally {
         cases: 0,
         differ: 0,
     };
     let mut at: usize = 0;
     while at < text.len() {
-        let answer = case_at(text, at);
+        let answer = case_at(kind, text, at);
         let CaseAnswer::Case(next, same) = answer else {
             list::print_bad_line(name, tally);
             return;
@@ -83,7 +92,7 @@ fn replay(name: &[u8], text: &[u8]) {
 }
 
 // The case on the line at index at.
-fn case_at(text: &[u8], at: usize) -> CaseAnswer
+fn case_at(kind: ListKind, text: &[u8], at: usize) -> CaseAnswer
     ensures { λ r. ⌜ CasePast at r ⌝ }
 {
     let mut numbers = [0u64; MOST_NUMBERS];
@@ -91,9 +100,16 @@ fn case_at(text: &[u8], at: usize) -> CaseAnswer
     let LineAnswer::Line(count, next) = line else {
         return CaseAnswer::Bad;
     };
-    match bits::outcome(&numbers[..count]) {
+    match list_outcome(kind, &numbers[..count]) {
         Outcome::Same => CaseAnswer::Case(next, true),
         Outcome::Differs => CaseAnswer::Case(next, false),
         Outcome::Bad => CaseAnswer::Bad,
+    }
+}
+
+fn list_outcome(kind: ListKind, numbers: &[u64]) -> Outcome {
+    match kind {
+        ListKind::Bits => bits::outcome(numbers),
+        ListKind::Carriers => carriers::outcome(numbers),
     }
 }

@@ -10,24 +10,28 @@ use differential::random::Random;
 pub const GROUPS: [Group; 6] = [
     Group {
         name: "every call on short slices",
+        least: 1,
         outcomes: &EVERY_OUTCOME,
         marks: &[],
         run: short_slices,
     },
     Group {
         name: "random calls on long slices",
+        least: 1,
         outcomes: &EVERY_OUTCOME,
         marks: &[],
         run: long_slices,
     },
     Group {
         name: "sequences with windows in windows",
+        least: 1,
         outcomes: &EVERY_OUTCOME,
         marks: &[AFTER_REFUSAL, DEEPEST_WINDOW],
         run: sequences,
     },
     Group {
         name: "byte_align in every window",
+        least: 1,
         outcomes: &[
             ("take_bits", ACCEPTED),
             ("byte_align", ACCEPTED),
@@ -40,6 +44,7 @@ pub const GROUPS: [Group; 6] = [
     },
     Group {
         name: "forged cursors against a model, not the Rust",
+        least: 1,
         outcomes: &[
             ("bits_remaining", ACCEPTED),
             ("read_bits", ACCEPTED),
@@ -56,6 +61,7 @@ pub const GROUPS: [Group; 6] = [
     },
     Group {
         name: "bit_cursor",
+        least: 1,
         outcomes: &[("bit_cursor", ACCEPTED)],
         marks: &[],
         run: bit_cursors,

@@ -217,11 +217,7 @@ impl fmt::Display for Described<'_> {
             limit,
         } = self.request;
         writeln!(formatter, "  call      emdf_{}", call.name())?;
-        write!(formatter, "  bytes     {} in all:", self.bytes.len())?;
-        for run in self.bytes.chunk_by(|one, next| one == next) {
-            write_run(formatter, run)?;
-        }
-        writeln!(formatter)?;
+        write_bytes(formatter, self.bytes)?;
         writeln!(formatter, "  position  {}", cursor.position)?;
         writeln!(formatter, "  end       {}", cursor.end)?;
         writeln!(formatter, "  argument  {argument}")?;
@@ -230,6 +226,19 @@ impl fmt::Display for Described<'_> {
         }
         Ok(())
     }
+}
+
+/// A report's line with the bytes of a case.
+///
+/// # Errors
+///
+/// Where the formatter takes no more.
+pub fn write_bytes(formatter: &mut fmt::Formatter<'_>, bytes: &[u8]) -> fmt::Result {
+    write!(formatter, "  bytes     {} in all:", bytes.len())?;
+    for run in bytes.chunk_by(|one, next| one == next) {
+        write_run(formatter, run)?;
+    }
+    writeln!(formatter)
 }
 
 /// Equal bytes, each on its own unless they are many.

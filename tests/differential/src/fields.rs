@@ -3,17 +3,18 @@
 use crate::bits;
 use crate::judge::Subject;
 use crate::report::{Difference, Group, Tally};
-use crate::written::{Written, TOO_LARGE};
 use differential::case::{
     Cursor, Request, ACCEPTED, INVALID_BOUNDS, MAX_FIELD_WIDTH, TOO_FEW_BITS, TOO_MANY_GROUPS,
     VALUE_TOO_LARGE,
 };
 use differential::options::Length;
 use differential::random::Random;
+use differential::written::{Written, TOO_LARGE};
 
 pub const GROUPS: [Group; 5] = [
     Group {
         name: "every width and limit of a field",
+        least: 1,
         outcomes: &[
             ("variable_bits", ACCEPTED),
             ("variable_bits", TOO_FEW_BITS),
@@ -26,6 +27,7 @@ pub const GROUPS: [Group; 5] = [
     },
     Group {
         name: "fields of known values",
+        least: 1,
         outcomes: &[
             ("variable_bits", ACCEPTED),
             ("variable_bits", TOO_FEW_BITS),
@@ -36,6 +38,7 @@ pub const GROUPS: [Group; 5] = [
     },
     Group {
         name: "fields in random bits",
+        least: 1,
         outcomes: &[
             ("variable_bits", ACCEPTED),
             ("variable_bits", TOO_FEW_BITS),
@@ -47,6 +50,7 @@ pub const GROUPS: [Group; 5] = [
     },
     Group {
         name: "fields up to 2^64 and past it",
+        least: 1,
         outcomes: &[
             ("variable_bits", ACCEPTED),
             ("variable_bits", TOO_MANY_GROUPS),
@@ -57,6 +61,7 @@ pub const GROUPS: [Group; 5] = [
     },
     Group {
         name: "fields at forged cursors against a model, not the Rust",
+        least: 1,
         outcomes: &[
             ("variable_bits", TOO_FEW_BITS),
             ("variable_bits", INVALID_BOUNDS),

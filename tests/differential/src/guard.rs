@@ -1,13 +1,19 @@
-//! An input that the library may read and do nothing else with.
+//! Inputs that the library may read and do nothing else with.
 
+use std::ffi::c_char;
 use std::ptr;
 
 const PAGE: usize = 4096;
 const PROT_NONE: i32 = 0;
 const PROT_READ: i32 = 1;
 const PROT_WRITE: i32 = 2;
+const MAP_SHARED: i32 = 1;
 const MAP_PRIVATE: i32 = 2;
+const MAP_FIXED: i32 = 16;
 const MAP_ANONYMOUS: i32 = 32;
+
+/// Enough for the longest carrier and as many bytes after it.
+const ROOM: usize = 32 * PAGE;
 
 /// What lies before an input, so that bits from there are noticed.
 const NOISE: u8 = 0xa5;
@@ -23,6 +29,9 @@ extern "C" {
     ) -> *mut u8;
     fn mprotect(address: *mut u8, length: usize, protection: i32) -> i32;
     fn munmap(address: *mut u8, length: usize) -> i32;
+    fn memfd_create(name: *const c_char, flags: u32) -> i32;
+    fn ftruncate(file: i32, length: i64) -> i32;
+    fn close(file: i32) -> i32;
 }
 
 /// A copy of some bytes in read-only memory; the byte after the last one can't be touched.
@@ -73,5 +82,68 @@ impl Drop for Input {
         // SAFETY: the whole mapping made in `new`; no slice of it outlives the input.
         let freed = unsafe { munmap(self.mapping, self.mapped) };
         assert_eq!(freed, 0);
+    }
+}
+
+/// A place for inputs in turn; its memory is there twice, so that filling it asks no system call.
+pub struct Place {
+    writable: *mut u8,
+    guarded: *mut u8,
+    length: usize,
+}
+
+impl Place {
+    #[must_use]
+    pub fn new() -> Self {
+        // SAFETY: fresh mappings of `ROOM` bytes, the second in the middle of a closed one.
+        unsafe {
+            let file = memfd_create(c"input".as_ptr(), 0);
+            assert!(file >= 0, "no memory for inputs");
+            assert_eq!(ftruncate(file, ROOM as i64), 0);
+            let protection = PROT_READ | PROT_WRITE;
+            let writable = mmap(ptr::null_mut(), ROOM, protection, MAP_SHARED, file, 0);
+            assert!(writable.addr() != usize::MAX, "no memory for inputs");
+            let flags = MAP_PRIVATE | MAP_ANONYMOUS;
+            let mapping = mmap(ptr::null_mut(), ROOM + 2 * PAGE, PROT_NONE, flags, -1, 0);
+            assert!(mapping.addr() != usize::MAX, "no memory for inputs");
+            let guarded = mapping.add(PAGE);
+            let mapped = mmap(guarded, ROOM, PROT_READ, MAP_SHARED | MAP_FIXED, file, 0);
+            assert_eq!(mapped, guarded);
+            assert_eq!(close(file), 0);
+            ptr::write_bytes(writable, NOISE, ROOM);
+            Self {
+                writable,
+                guarded,
+                length: 0,
+            }
+        }
+    }
+
+    /// Replaces the input that was there.
+    pub fn put(&mut self, bytes: &[u8]) {
+        assert!(bytes.len() <= ROOM, "an input too long for its place");
+        // SAFETY: both ranges end where the room ends and are no longer than it.
+        unsafe {
+            let end = self.writable.add(ROOM);
+            ptr::write_bytes(end.sub(self.length), NOISE, self.length);
+            ptr::copy_nonoverlapping(bytes.as_ptr(), end.sub(bytes.len()), bytes.len());
+        }
+        self.length = bytes.len();
+    }
+
+    #[must_use]
+    pub fn bytes(&self) -> &[u8] {
+        // SAFETY: the input's bytes end where the last, closed page begins.
+        unsafe { std::slice::from_raw_parts(self.guarded.add(ROOM - self.length), self.length) }
+    }
+}
+
+impl Drop for Place {
+    fn drop(&mut self) {
+        // SAFETY: both mappings made in `new`; no slice of them outlives the place.
+        unsafe {
+            assert_eq!(munmap(self.writable, ROOM), 0);
+            assert_eq!(munmap(self.guarded.sub(PAGE), ROOM + 2 * PAGE), 0);
+        }
     }
 }

@@ -1,7 +1,14 @@
-//! What the driver and the list have in common. Nothing here calls the library.
+//! What the driver, the lists and the benchmark have in common. Nothing here calls the library.
 
+pub mod carrier;
 pub mod case;
+pub mod contents;
+pub mod damage;
 pub mod draw;
+pub mod facts;
 pub mod options;
 pub mod oracle;
 pub mod random;
+pub mod shapes;
+pub mod written;
+pub mod wrong;

@@ -1,13 +1,11 @@
 //! The library's exported calls, each behind a safe function that checks what it wrote.
 
 use crate::crash;
+use crate::frame::Frame;
 use crate::guard::Input;
+use crate::lent::Lent;
+use differential::carrier::{Ask, Asked, Reply};
 use differential::case::{Answer, Call, Described, Request};
-
-const ANSWER: usize = 48;
-
-/// What stands in the answer's place and around it before a call.
-const UNWRITTEN: u8 = 0x5a;
 
 extern "C" {
     fn emdf_bit_cursor(bytes: *const u8, length: usize, answer: *mut u8) -> u32;
@@ -57,37 +55,22 @@ extern "C" {
         limit: u8,
         answer: *mut u8,
     ) -> u32;
-}
-
-/// The place for an answer, at an odd address, between bytes that must stay.
-#[repr(C, align(8))]
-struct Frame {
-    before: [u8; 13],
-    answer: [u8; ANSWER],
-    after: [u8; 19],
-}
-
-impl Frame {
-    const EMPTY: Self = Self {
-        before: [UNWRITTEN; 13],
-        answer: [UNWRITTEN; ANSWER],
-        after: [UNWRITTEN; 19],
-    };
-
-    /// Taken from the whole frame, so that a write beside the answer is seen.
-    fn answer_mut(&mut self) -> *mut u8 {
-        let offset = std::mem::offset_of!(Self, answer);
-        std::ptr::from_mut(self).cast::<u8>().wrapping_add(offset)
-    }
-
-    fn is_intact_around(&self) -> bool {
-        self.before == Self::EMPTY.before && self.after == Self::EMPTY.after
-    }
-
-    fn words(&self) -> [u64; 6] {
-        let (words, _) = self.answer.as_chunks();
-        std::array::from_fn(|place| u64::from_be_bytes(words[place]))
-    }
+    fn emdf_classify(bytes: *const u8, length: usize, answer: *mut u8) -> u32;
+    fn emdf_read(
+        bytes: *const u8,
+        length: usize,
+        table: *mut u8,
+        table_length: usize,
+        answer: *mut u8,
+    ) -> u32;
+    fn emdf_move_body(
+        bytes: *const u8,
+        length: usize,
+        place: usize,
+        scratch: *mut u8,
+        scratch_length: usize,
+        answer: *mut u8,
+    ) -> u32;
 }
 
 /// What the library returned and wrote.
@@ -113,7 +96,7 @@ impl Observed {
 #[must_use]
 pub fn answer(input: &Input, request: Request) -> Observed {
     let bytes = input.bytes();
-    let mut frame = Frame::EMPTY;
+    let mut frame = Frame::<48>::EMPTY;
     let number = crash::during(&Described { bytes, request }, || {
         call(bytes, request, frame.answer_mut())
     });
@@ -144,5 +127,41 @@ fn call(bytes: &[u8], request: Request, answer: *mut u8) -> u32 {
                 emdf_variable_bits(start, length, position, end, width, limit, answer)
             }
         }
+    }
+}
+
+/// What the library returned and wrote to its answer; what it was lent is looked at apart.
+#[derive(Clone, Copy)]
+pub struct Replied {
+    pub reply: Reply,
+    /// False where a byte beside those of the answer was written.
+    pub frame_intact: bool,
+}
+
+/// Makes one call on a whole carrier.
+#[must_use]
+pub fn reply(bytes: &[u8], ask: Ask, lent: &mut Lent) -> Replied {
+    let (start, length) = (bytes.as_ptr(), bytes.len());
+    let memory = lent.lend(ask.lent());
+    // SAFETY: the slice and what is lent are alive, and each answer has the bytes it wants.
+    crash::during(&Asked { bytes, ask }, || unsafe {
+        match ask {
+            Ask::Classify => replied::<80, 10>(|answer| emdf_classify(start, length, answer)),
+            Ask::Read { table } => {
+                replied::<72, 9>(|answer| emdf_read(start, length, memory, table, answer))
+            }
+            Ask::MoveBody { place, scratch } => replied::<16, 2>(|answer| {
+                emdf_move_body(start, length, place, memory, scratch, answer)
+            }),
+        }
+    })
+}
+
+fn replied<const BYTES: usize, const WORDS: usize>(call: impl FnOnce(*mut u8) -> u32) -> Replied {
+    let mut frame = Frame::<BYTES>::EMPTY;
+    let number = call(frame.answer_mut());
+    Replied {
+        reply: Reply::new(number, &frame.words::<WORDS>()),
+        frame_intact: frame.is_intact_around(),
     }
 }

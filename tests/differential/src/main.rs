@@ -1,15 +1,19 @@
 //! Compares the library's exported calls with the Rust original on the same inputs.
 
 mod bits;
+mod bodies;
+mod carriers;
 mod crash;
+mod examine;
 mod fields;
+mod frame;
 mod guard;
 mod judge;
+mod lent;
 mod library;
 mod model;
 mod report;
 mod shrink;
-mod written;
 
 use differential::options::Options;
 use differential::random::Random;
@@ -17,7 +21,12 @@ use report::{Group, Tally};
 use std::process::ExitCode;
 
 /// Each part's groups, run in this order.
-const PARTS: [&[Group]; 2] = [&bits::GROUPS, &fields::GROUPS];
+const PARTS: [&[Group]; 4] = [
+    &bits::GROUPS,
+    &fields::GROUPS,
+    &carriers::GROUPS,
+    &bodies::GROUPS,
+];
 
 fn main() -> ExitCode {
     let options = match Options::parse(std::env::args().skip(1)) {
@@ -57,9 +66,9 @@ fn passes(group: &Group, random: &mut Random, options: &Options) -> bool {
         return false;
     }
     println!("{name}: {tally}, 0 differences");
-    let never_hit = tally.never_hit();
-    for missing in &never_hit {
-        println!("  never hit: {missing}");
+    let too_rare = tally.too_rare();
+    for outcome in &too_rare {
+        println!("  too rare: {outcome}");
     }
-    never_hit.is_empty()
+    too_rare.is_empty()
 }

@@ -11,9 +11,11 @@ pub type Outcome = (&'static str, u32);
 /// The two sides disagree: the smallest such case that was found, in full.
 pub struct Difference(pub String);
 
-/// Cases of one kind. The run fails where an outcome or a mark is never hit.
+/// Cases of one kind. The run fails where an outcome or a mark is hit too rarely.
 pub struct Group {
     pub name: &'static str,
+    /// How often each outcome and each mark has to be hit.
+    pub least: u64,
     pub outcomes: &'static [Outcome],
     /// Whatever else the cases must reach.
     pub marks: &'static [&'static str],
@@ -24,6 +26,7 @@ pub struct Group {
 pub struct Tally {
     outcomes: Vec<(Outcome, u64)>,
     marks: Vec<(&'static str, u64)>,
+    least: u64,
 }
 
 impl Tally {
@@ -32,15 +35,20 @@ impl Tally {
         Self {
             outcomes: group.outcomes.iter().map(|&outcome| (outcome, 0)).collect(),
             marks: group.marks.iter().map(|&mark| (mark, 0)).collect(),
+            least: group.least,
         }
     }
 
     pub fn count(&mut self, call: &'static str, number: u32) {
-        raise(&mut self.outcomes, (call, number));
+        raise(&mut self.outcomes, (call, number), 1);
     }
 
     pub fn mark(&mut self, mark: &'static str) {
-        raise(&mut self.marks, mark);
+        self.mark_times(mark, 1);
+    }
+
+    pub fn mark_times(&mut self, mark: &'static str, times: u64) {
+        raise(&mut self.marks, mark, times);
     }
 
     #[must_use]
@@ -48,14 +56,21 @@ impl Tally {
         self.outcomes.iter().map(|(_, count)| count).sum()
     }
 
-    /// What the group had to hit and didn't.
+    /// What the group had to hit more often than it did.
     #[must_use]
-    pub fn never_hit(&self) -> Vec<String> {
-        let outcomes = self.outcomes.iter().filter(|(_, count)| *count == 0);
-        let marks = self.marks.iter().filter(|(_, count)| *count == 0);
+    pub fn too_rare(&self) -> Vec<String> {
+        let outcomes = self.outcomes.iter().map(|((call, number), count)| {
+            let name = format!("{call} {}", outcome_name(*number));
+            (name, *count)
+        });
+        let marks = self
+            .marks
+            .iter()
+            .map(|(mark, count)| ((*mark).to_string(), *count));
         outcomes
-            .map(|((call, number), _)| format!("{call} {}", outcome_name(*number)))
-            .chain(marks.map(|(mark, _)| (*mark).to_string()))
+            .chain(marks)
+            .filter(|(_, count)| *count < self.least)
+            .map(|(name, count)| format!("{name} hit {count} times, not {}", self.least))
             .collect()
     }
 }
@@ -84,9 +99,9 @@ fn outcome_name(number: u32) -> String {
     }
 }
 
-fn raise<K: PartialEq>(counts: &mut Vec<(K, u64)>, key: K) {
+fn raise<K: PartialEq>(counts: &mut Vec<(K, u64)>, key: K, by: u64) {
     match counts.iter_mut().find(|(known, _)| *known == key) {
-        Some((_, count)) => *count += 1,
-        None => counts.push((key, 1)),
+        Some((_, count)) => *count += by,
+        None => counts.push((key, by)),
     }
 }

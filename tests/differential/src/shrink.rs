@@ -1,9 +1,14 @@
 //! A greedy search for the smallest case that still fails.
 
+use differential::carrier::{Ask, HEADER};
 use differential::case::{Cursor, Request};
+use differential::contents::{Contents, Settings};
+use differential::facts;
+use std::ops::Range;
+use std::time::{Duration, Instant};
 
-/// More tries than a small case needs, few enough to end soon on a long slice.
-const TRIES: usize = 300_000;
+/// Longer than a small case needs, short enough to wait for on a long slice.
+const PATIENCE: Duration = Duration::from_secs(20);
 
 /// Cases that are smaller in one respect and larger in none.
 pub type Smaller<'a, T> = Box<dyn Iterator<Item = T> + 'a>;
@@ -14,10 +19,10 @@ pub fn smallest<T>(
     smaller: fn(&T) -> Smaller<'_, T>,
     fails: impl Fn(&T) -> bool,
 ) -> T {
-    let mut tries = 0..TRIES;
+    let end = Instant::now() + PATIENCE;
     loop {
         let next = smaller(&failing)
-            .take_while(|_| tries.next().is_some())
+            .take_while(|_| Instant::now() < end)
             .find(|case| fails(case));
         match next {
             Some(case) => failing = case,
@@ -35,12 +40,16 @@ pub struct Case {
 
 /// Shorter slices first, then fewer ones in the bytes, then smaller numbers.
 pub fn smaller_cases(case: &Case) -> Smaller<'_, Case> {
+    let with_bytes = |bytes| Case { bytes, ..*case };
     Box::new(
         cut_at_the_end(case)
             .chain(cut_at_the_start(case))
             .chain(cut_with_the_argument(case))
-            .chain(zeroed(case))
-            .chain(cleared(case))
+            .chain(
+                zeroed(&case.bytes)
+                    .chain(cleared(&case.bytes))
+                    .map(with_bytes),
+            )
             .chain(smaller_numbers(case))
             .chain(smaller_limits(case)),
     )
@@ -88,29 +97,24 @@ fn cut_with_the_argument(case: &Case) -> impl Iterator<Item = Case> + '_ {
 }
 
 /// Runs of bytes, long ones first, set to zero.
-fn zeroed(case: &Case) -> impl Iterator<Item = Case> + '_ {
-    let length = case.bytes.len();
-    let runs = amounts(length).flat_map(move |size| {
-        (0..length)
-            .step_by(size)
-            .map(move |start| start..length.min(start + size))
-    });
-    runs.filter(|run| case.bytes[run.clone()].iter().any(|&byte| byte != 0))
+fn zeroed(bytes: &[u8]) -> impl Iterator<Item = Vec<u8>> + '_ {
+    runs(0..bytes.len())
+        .filter(|run| bytes[run.clone()].iter().any(|&byte| byte != 0))
         .map(|run| {
-            let mut bytes = case.bytes.clone();
+            let mut bytes = bytes.to_vec();
             bytes[run].fill(0);
-            Case { bytes, ..*case }
+            bytes
         })
 }
 
 /// Single ones set to zero.
-fn cleared(case: &Case) -> impl Iterator<Item = Case> + '_ {
-    let bits = (0..case.bytes.len()).flat_map(|place| (0..8).map(move |bit| (place, 1 << bit)));
-    bits.filter(|&(place, mask)| case.bytes[place] & mask != 0)
+fn cleared(bytes: &[u8]) -> impl Iterator<Item = Vec<u8>> + '_ {
+    let bits = (0..bytes.len()).flat_map(|place| (0..8).map(move |bit| (place, 1 << bit)));
+    bits.filter(|&(place, mask)| bytes[place] & mask != 0)
         .map(|(place, mask)| {
-            let mut bytes = case.bytes.clone();
+            let mut bytes = bytes.to_vec();
             bytes[place] ^= mask;
-            Case { bytes, ..*case }
+            bytes
         })
 }
 
@@ -146,6 +150,125 @@ fn smaller_limits(case: &Case) -> impl Iterator<Item = Case> + '_ {
             limit,
             ..case.request
         },
+    })
+}
+
+/// A carrier and what is asked of it.
+#[derive(Clone)]
+pub struct CarrierCase {
+    pub bytes: Vec<u8>,
+    pub ask: Ask,
+}
+
+/// Less in the carrier first, then shorter ones, fewer ones in the bytes, and less that is lent.
+pub fn smaller_carriers(case: &CarrierCase) -> Smaller<'_, CarrierCase> {
+    let bytes = &case.bytes;
+    let ends = amounts(bytes.len()).map(|dropped| bytes[..bytes.len() - dropped].to_vec());
+    let shorter = with_less_in_it(bytes)
+        .chain(ends)
+        .chain(without_runs(bytes))
+        .chain(zeroed(bytes))
+        .chain(cleared(bytes))
+        .map(|bytes| CarrierCase { bytes, ..*case });
+    let lent = case.ask.lent();
+    let asked = amounts(lent).filter_map(move |less| case.ask.with_lent(lent - less));
+    let less = asked.map(|ask| CarrierCase {
+        bytes: bytes.clone(),
+        ask,
+    });
+    Box::new(with_an_earlier_place(case).chain(shorter).chain(less))
+}
+
+/// The body that is asked for, with fewer payloads before it.
+fn with_an_earlier_place(case: &CarrierCase) -> impl Iterator<Item = CarrierCase> + '_ {
+    let asked = match case.ask {
+        Ask::MoveBody { place, scratch } => facts::reading(&case.bytes)
+            .ok()
+            .filter(|found| place < found.contents.payloads.len())
+            .map(|found| (found.contents, place, scratch)),
+        _ => None,
+    };
+    asked.into_iter().flat_map(|(contents, place, scratch)| {
+        amounts(place).map(move |dropped| {
+            let mut smaller = contents.clone();
+            smaller.payloads.drain(..dropped);
+            let place = place - dropped;
+            CarrierCase {
+                bytes: smaller.written().0,
+                ask: Ask::MoveBody { place, scratch },
+            }
+        })
+    })
+}
+
+/// A carrier that the original accepts, written anew from smaller contents.
+fn with_less_in_it(bytes: &[u8]) -> impl Iterator<Item = Vec<u8>> + '_ {
+    let found = facts::reading(bytes).ok().into_iter();
+    found.flat_map(move |found| {
+        smaller_contents(&found.contents).filter_map(move |change| {
+            let mut smaller = found.contents.clone();
+            change(&mut smaller);
+            let after = &bytes[found.consumed..];
+            (smaller != found.contents).then(|| [&smaller.written().0, after].concat())
+        })
+    })
+}
+
+/// What makes contents smaller, or leaves them as they are.
+type Change = Box<dyn Fn(&mut Contents)>;
+
+/// Fewer payloads first, then shorter bodies, then plainer ones.
+fn smaller_contents(contents: &Contents) -> impl Iterator<Item = Change> {
+    let sizes: Vec<usize> = contents
+        .payloads
+        .iter()
+        .map(|payload| payload.body.len())
+        .collect();
+    let fewer = runs(0..sizes.len()).map(|run| -> Change {
+        Box::new(move |contents| drop(contents.payloads.drain(run.clone())))
+    });
+    let plainer = [
+        |contents: &mut Contents| contents.key_id = 0,
+        |contents: &mut Contents| contents.primary.truncate(1),
+        |contents: &mut Contents| contents.secondary.clear(),
+    ];
+    let plainer = plainer
+        .into_iter()
+        .map(|change| -> Change { Box::new(change) });
+    let payloads = sizes.into_iter().enumerate();
+    let payloads = payloads.flat_map(|(place, size)| smaller_payload(place, size));
+    fewer.chain(plainer).chain(payloads)
+}
+
+fn smaller_payload(place: usize, size: usize) -> impl Iterator<Item = Change> {
+    let shorter = amounts(size).map(move |dropped| -> Change {
+        Box::new(move |contents| contents.payloads[place].body.truncate(size - dropped))
+    });
+    let settings: Change =
+        Box::new(move |contents| contents.payloads[place].settings = Settings::LEAST);
+    let id: Change = Box::new(move |contents| contents.payloads[place].id = 1);
+    shorter.chain([settings, id])
+}
+
+/// Runs of bytes after the header taken out, long ones first; the declared length goes along.
+fn without_runs(bytes: &[u8]) -> impl Iterator<Item = Vec<u8>> + '_ {
+    runs(HEADER.min(bytes.len())..bytes.len()).filter_map(|run| {
+        let declared = u16::from_be_bytes([bytes[2], bytes[3]]);
+        let declared = declared.checked_sub(u16::try_from(run.len()).ok()?)?;
+        let mut bytes = bytes.to_vec();
+        bytes.drain(run);
+        bytes[2..HEADER].copy_from_slice(&declared.to_be_bytes());
+        Some(bytes)
+    })
+}
+
+/// The parts of a range, of each size that is tried.
+fn runs(range: Range<usize>) -> impl Iterator<Item = Range<usize>> {
+    let Range { start, end } = range;
+    amounts(end - start).flat_map(move |size| {
+        (start..end)
+            .step_by(size)
+            .map(move |start| start..end.min(start + size))
     })
 }
 

@@ -1,6 +1,6 @@
 //! Variable fields written by document 01's rule, and the answers that it gives to them.
 
-use differential::case::{Answer, Cursor};
+use crate::case::{Answer, Cursor};
 
 /// The smallest value that no field may have.
 pub const TOO_LARGE: u128 = 1 << 64;
@@ -20,6 +20,9 @@ impl Written {
         Self { width, bits, value }
     }
 
+    /// # Panics
+    ///
+    /// On more groups than a limit can be, which takes a value far past 2^64.
     #[must_use]
     pub fn groups(&self) -> u8 {
         let groups = self.bits.len() / self.bits_of(1);

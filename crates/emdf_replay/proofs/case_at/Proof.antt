@@ -22,11 +22,11 @@ returns c = search needs
 array-share-prefix-numbers : tie.Need-array-share-prefix-numbers
 array-share-prefix-numbers c = let h = rw (c .before .line .given .1) at (c .before .before .before .before .line-at .ensures) in h .0
 
-slice-aggregate-outcome : tie.Need-slice-aggregate-outcome
-slice-aggregate-outcome c = let h = rw (c .before .before .line .given .1) at (c .before .before .before .before .before .line-at .ensures) in sym (length-take-le _ _ (h .0))
+slice-aggregate-list-outcome : tie.Need-slice-aggregate-list-outcome
+slice-aggregate-list-outcome c = let h = rw (c .before .before .line .given .1) at (c .before .before .before .before .before .line-at .ensures) in sym (length-take-le _ _ (h .0))
 
-outcome-requires : tie.Need-outcome-requires
-outcome-requires c κs = search needs
+list-outcome-requires : tie.Need-list-outcome-requires
+list-outcome-requires c κs = search needs
 
 enum-told-2 : tie.Need-enum-told-2
 enum-told-2 c = search needs
@@ -56,8 +56,8 @@ case-at-spec =
     enum-told
     returns
     array-share-prefix-numbers
-    slice-aggregate-outcome
-    outcome-requires
+    slice-aggregate-list-outcome
+    list-outcome-requires
     enum-told-2
     enum-told-3
     enum-told-4

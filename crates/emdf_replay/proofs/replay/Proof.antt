@@ -6,10 +6,10 @@ use Rattle.emdf_replay.proofs.replay.Statement.{statement}
 use Rattle.emdf_replay.proofs.replay.Tie as tie
 
 abbrev Inv-loop : tie.InvT-loop
-Inv-loop name text tally₀ at₀ tally at = (tally .cases ≤ at) × (tally .differ ≤ tally .cases)
+Inv-loop kind name text tally₀ at₀ tally at = (tally .cases ≤ at) × (tally .differ ≤ tally .cases)
 
 abbrev μ-loop : tie.MeasureT-loop
-μ-loop name text tally₀ at₀ tally at = length text - at
+μ-loop kind name text tally₀ at₀ tally at = length text - at
 
 loop-holds : tie.Need-loop-holds Inv-loop μ-loop
 loop-holds c = omega arith

@@ -2,8 +2,8 @@ use native.Mathlib.Omega.{arith}
 use Prim.Native.Nat.{_-_}
 use mathlib.Core.Path.{_≡_, refl}
 use lib.ListN.{length}
-use Rattle.emdf_replay.proofs.bits.put_bytes.Statement.{statement}
-use Rattle.emdf_replay.proofs.bits.put_bytes.Tie as tie
+use Rattle.emdf_replay.proofs.words.put_bytes.Statement.{statement}
+use Rattle.emdf_replay.proofs.words.put_bytes.Tie as tie
 
 abbrev Inv-loop : tie.InvT-loop
 Inv-loop bytes₀ numbers i₀ bytes i = length bytes ≡ length bytes₀

@@ -2,14 +2,14 @@ use borrow.Author.Needs.{needs}
 use native.Mathlib.Omega.{arith}
 use Prim.Native.Nat.{_-_}
 use lib.ListN.{length}
-use Rattle.emdf_replay.proofs.bits.same_words.Statement.{statement}
-use Rattle.emdf_replay.proofs.bits.same_words.Tie as tie
+use Rattle.emdf_replay.proofs.words.same_words.Statement.{statement}
+use Rattle.emdf_replay.proofs.words.same_words.Tie as tie
 
 abbrev Inv-loop : tie.InvT-loop
-Inv-loop answer words cursor₀ i₀ cursor i = Unit {0}
+Inv-loop bytes words cursor₀ i₀ cursor i = Unit {0}
 
 abbrev μ-loop : tie.MeasureT-loop
-μ-loop answer words cursor₀ i₀ cursor i = length words - i
+μ-loop bytes words cursor₀ i₀ cursor i = length words - i
 
 new-requires : tie.Need-new-requires Inv-loop μ-loop
 new-requires c κs = tt

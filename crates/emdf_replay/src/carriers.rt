@@ -1,0 +1,70 @@
+// A case of reading a carrier, by its line's numbers: length byte*length number word*9, and 27 numbers a payload.
+ghost use Prim.Native.Nat.{_≤_};
+ghost use lib.ListN.{length};
+use crate::list::Outcome;
+use crate::words;
+
+// The most bytes of a case.
+const MOST: usize = 4096;
+
+// Room for 128 payloads.
+const TABLE: usize = 27648;
+
+pub(crate) fn outcome(numbers: &[u64]) -> Outcome {
+    let count = numbers.len();
+    if count < 11 {
+        return Outcome::Bad;
+    }
+    let length = words::index(numbers[0]);
+    if count - 11 < length {
+        return Outcome::Bad;
+    }
+    if MOST < length {
+        return Outcome::Bad;
+    }
+    let mut space = [0u8; MOST];
+    let past = 1 + length;
+    if !words::put_bytes(&mut space, &numbers[1..past]) {
+        return Outcome::Bad;
+    }
+    read_outcome(&space[..length], &numbers[past..])
+}
+
+// The rest of the line: number word*9, and the rows.
+fn read_outcome(bytes: &[u8], rest: &[u64]) -> Outcome
+    requires { ⌜ 10 ≤ length (now rest) ⌝ }
+{
+    let mut table = [0u8; TABLE];
+    let mut answer = [0u8; 72];
+    let number = emdf_host::emdf_read(bytes, &mut table, &mut answer);
+    if (rest.len() - 10) / 27 != rows(rest[0], rest[3]) {
+        return Outcome::Bad;
+    }
+    if number as u64 != rest[0] {
+        return Outcome::Differs;
+    }
+    if !same_answer(&answer, &rest[1..10]) {
+        return Outcome::Differs;
+    }
+    if same_rows(&table, &rest[10..]) {
+        Outcome::Same
+    } else {
+        Outcome::Differs
+    }
+}
+
+fn same_answer(answer: &[u8; 72], values: &[u64]) -> bool {
+    words::same_words(answer, values)
+}
+
+fn same_rows(table: &[u8; TABLE], values: &[u64]) -> bool {
+    words::same_words(table, values)
+}
+
+// A reading that is accepted has a row a payload.
+fn rows(number: u64, payloads: u64) -> usize {
+    if number == 0 {
+        return words::index(payloads);
+    }
+    0
+}

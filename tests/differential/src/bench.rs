@@ -1,0 +1,173 @@
+//! Measures what a reading and a classification cost, in the library and in the Rust original.
+
+use differential::carrier::{A, B, ROW};
+use differential::contents::{Contents, Payload, Settings};
+use std::hint::black_box;
+use std::process::ExitCode;
+use std::time::{Duration, Instant};
+
+const ROWS: usize = 512;
+const ROUNDS: usize = 21;
+
+/// What one round of one side takes, so that the clock's own steps don't count.
+const ROUND: Duration = Duration::from_millis(8);
+
+extern "C" {
+    fn emdf_classify(bytes: *const u8, length: usize, answer: *mut u8) -> u32;
+    fn emdf_read(
+        bytes: *const u8,
+        length: usize,
+        table: *mut u8,
+        table_length: usize,
+        answer: *mut u8,
+    ) -> u32;
+}
+
+fn main() -> ExitCode {
+    println!("nanoseconds per call, medians of {ROUNDS} rounds in turns");
+    println!(
+        "{:<34} {:>8} {:>12} {:>12} {:>8}",
+        "carrier", "call", "library", "Rust", "ratio"
+    );
+    for (name, carrier) in carriers() {
+        let [library_read, rust_read, library_class, rust_class] = medians(&carrier);
+        for (call, library, rust) in [
+            ("read", library_read, rust_read),
+            ("classify", library_class, rust_class),
+        ] {
+            let ratio = library / rust;
+            println!("{name:<34} {call:>8} {library:>12.1} {rust:>12.1} {ratio:>8.4}");
+        }
+    }
+    ExitCode::SUCCESS
+}
+
+fn carriers() -> [(String, Vec<u8>); 5] {
+    let written = |payloads| contents(payloads).written().0;
+    let carriers = [
+        ("A, no payload", A.to_vec()),
+        ("B, a body of 1 byte", B.to_vec()),
+        (
+            "two payloads of the profile",
+            written(vec![profiled(11, 160), profiled(14, 670)]),
+        ),
+        ("a body of 60,000 bytes", written(vec![plain(60_000)])),
+        ("512 payloads of 8 bytes", written(vec![plain(8); 512])),
+    ];
+    carriers.map(|(name, carrier)| (format!("{name} ({})", carrier.len()), carrier))
+}
+
+fn contents(payloads: Vec<Payload>) -> Contents {
+    Contents {
+        key_id: 0,
+        payloads,
+        primary: vec![0xa5],
+        secondary: Vec::new(),
+    }
+}
+
+fn plain(size: usize) -> Payload {
+    payload(1, size, Settings::LEAST)
+}
+
+/// Settings as TS 103 420's table 56 wants them.
+fn profiled(id: u64, size: usize) -> Payload {
+    let settings = Settings {
+        group_id: Some(0),
+        codec: true,
+        aligned: Some(true),
+        create: Some(false),
+        remove: Some(false),
+        priority: Some(0),
+        processing: Some(0),
+        ..Settings::default()
+    };
+    payload(id, size, settings)
+}
+
+fn payload(id: u64, size: usize, settings: Settings) -> Payload {
+    let body = (0..size).map(|place| (place * 151 + 0xc3) as u8).collect();
+    Payload { id, settings, body }
+}
+
+/// Reading and class, the library first each time, all four in each round.
+fn medians(carrier: &[u8]) -> [f64; 4] {
+    let mut table = vec![0; ROWS * ROW];
+    let mut calls: [Box<dyn FnMut() + '_>; 4] = [
+        Box::new(move || library_read(carrier, &mut table)),
+        Box::new(|| rust_read(carrier)),
+        Box::new(|| library_classify(carrier)),
+        Box::new(|| rust_classify(carrier)),
+    ];
+    let times = calls.each_mut().map(|call| times_for_a_round(call));
+    let mut rounds = [(); 4].map(|()| Vec::new());
+    for _ in 0..ROUNDS {
+        for ((call, times), costs) in calls.iter_mut().zip(times).zip(&mut rounds) {
+            costs.push(cost(call, times));
+        }
+    }
+    rounds.map(|mut costs| {
+        costs.sort_by(f64::total_cmp);
+        costs[ROUNDS / 2]
+    })
+}
+
+fn times_for_a_round(call: &mut dyn FnMut()) -> u32 {
+    let mut times = 1;
+    while cost(call, times) * f64::from(times) < nanoseconds(ROUND) {
+        times *= 2;
+    }
+    times
+}
+
+/// Nanoseconds for one of so many calls.
+fn cost(call: &mut dyn FnMut(), times: u32) -> f64 {
+    let start = Instant::now();
+    for _ in 0..times {
+        call();
+    }
+    nanoseconds(start.elapsed()) / f64::from(times)
+}
+
+fn nanoseconds(duration: Duration) -> f64 {
+    1e9 * duration.as_secs_f64()
+}
+
+fn library_read(carrier: &[u8], table: &mut [u8]) {
+    let carrier = black_box(carrier);
+    let mut answer = [0; 72];
+    // SAFETY: both slices are alive, and the answer has its 72 bytes.
+    let number = unsafe {
+        emdf_read(
+            carrier.as_ptr(),
+            carrier.len(),
+            table.as_mut_ptr(),
+            table.len(),
+            answer.as_mut_ptr(),
+        )
+    };
+    assert_eq!(number, 0, "a carrier that is not accepted");
+    black_box(answer);
+}
+
+fn rust_read(carrier: &[u8]) {
+    let traced = openjoc_emdf::parse_emdf_sync_with_bit_trace(black_box(carrier));
+    assert!(traced.is_ok(), "a carrier that is not accepted");
+    black_box(&traced);
+}
+
+fn library_classify(carrier: &[u8]) {
+    let carrier = black_box(carrier);
+    let mut answer = [0; 80];
+    // SAFETY: the slice is alive, and the answer has its 80 bytes.
+    let number = unsafe { emdf_classify(carrier.as_ptr(), carrier.len(), answer.as_mut_ptr()) };
+    assert_eq!((number, answer[7]), (0, 1), "a carrier that is not parsed");
+    black_box(answer);
+}
+
+fn rust_classify(carrier: &[u8]) {
+    let class = openjoc_emdf::classify_emdf_carrier(black_box(carrier));
+    let parsed = matches!(class, openjoc_emdf::CarrierClassification::Parsed(_));
+    assert!(parsed, "a carrier that is not parsed");
+    black_box(&class);
+}

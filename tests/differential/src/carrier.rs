@@ -1,0 +1,263 @@
+//! A call on a whole carrier, and its answer in the library's own figures.
+
+use crate::case::{write_bytes, ACCEPTED};
+use crate::contents::{Contents, Payload, Settings};
+use std::fmt;
+use std::ops::Range;
+
+pub const TRUNCATED: u32 = 1;
+pub const NO_SYNC_WORD: u32 = 2;
+pub const VERSION_NOT_ZERO: u32 = 8;
+pub const RESERVED_NOT_ZERO: u32 = 9;
+pub const NO_PRIMARY: u32 = 10;
+pub const PADDING_TOO_LONG: u32 = 11;
+pub const PADDING_NOT_ZERO: u32 = 12;
+pub const TABLE_TOO_SHORT: u32 = 13;
+pub const NO_SUCH_PLACE: u32 = 16;
+pub const SCRATCH_TOO_SHORT: u32 = 19;
+
+pub const SYNC_WORD: u16 = 0x5838;
+
+/// The bytes before the container: the sync word and its declared length.
+pub const HEADER: usize = 4;
+
+/// The most that a declared length can say.
+pub const MOST_DECLARED: usize = 65_535;
+
+/// 01's carrier without a payload.
+pub const A: [u8; 7] = [0x58, 0x38, 0x00, 0x03, 0x00, 0x12, 0x94];
+
+/// 01's carrier with a body of one byte.
+pub const B: [u8; 11] = [
+    0x58, 0x38, 0x00, 0x07, 0x00, 0x42, 0x02, 0xc3, 0x02, 0x52, 0x80,
+];
+
+/// A payload of the fewest bits: an id, five flags and the size of an empty body.
+const LEAST_PAYLOAD: usize = 19;
+
+const SUMMARY_WORDS: usize = 9;
+const SETTINGS_WORDS: usize = 18;
+pub const ROW_WORDS: usize = 27;
+
+/// The bytes of one row of a table.
+pub const ROW: usize = 8 * ROW_WORDS;
+
+/// The numbers of the longest answer.
+pub const MOST_WORDS: usize = 10;
+
+/// What is asked of a carrier; lengths are in bytes.
+#[derive(Clone, Copy, Debug, Eq, PartialEq)]
+pub enum Ask {
+    Classify,
+    Read { table: usize },
+    MoveBody { place: usize, scratch: usize },
+}
+
+impl Ask {
+    #[must_use]
+    pub fn name(self) -> &'static str {
+        match self {
+            Self::Classify => "classify",
+            Self::Read { .. } => "read",
+            Self::MoveBody { .. } => "move_body",
+        }
+    }
+
+    /// How many numbers its answer has.
+    #[must_use]
+    pub fn words(self) -> usize {
+        match self {
+            Self::Classify => MOST_WORDS,
+            Self::Read { .. } => SUMMARY_WORDS,
+            Self::MoveBody { .. } => 2,
+        }
+    }
+
+    /// The memory that the call may write to, beside its answer.
+    #[must_use]
+    pub fn lent(self) -> usize {
+        match self {
+            Self::Classify => 0,
+            Self::Read { table } => table,
+            Self::MoveBody { scratch, .. } => scratch,
+        }
+    }
+
+    /// The same with other memory, where it takes any.
+    #[must_use]
+    pub fn with_lent(self, lent: usize) -> Option<Self> {
+        match self {
+            Self::Classify => None,
+            Self::Read { .. } => Some(Self::Read { table: lent }),
+            Self::MoveBody { place, .. } => Some(Self::MoveBody {
+                place,
+                scratch: lent,
+            }),
+        }
+    }
+}
+
+/// What a call returns and the numbers that it writes; those that its answer lacks are 0.
+#[derive(Clone, Copy, Debug, Eq, PartialEq)]
+pub struct Reply {
+    pub number: u32,
+    pub words: [u64; MOST_WORDS],
+}
+
+impl Reply {
+    #[must_use]
+    pub fn new(number: u32, first: &[u64]) -> Self {
+        let mut words = [0; MOST_WORDS];
+        words[..first.len()].copy_from_slice(first);
+        Self { number, words }
+    }
+
+    #[must_use]
+    pub fn accepted(first: &[u64]) -> Self {
+        Self::new(ACCEPTED, first)
+    }
+
+    /// The reply as it stands in a report on what was asked.
+    #[must_use]
+    pub fn shown(&self, ask: Ask) -> String {
+        let words: Vec<_> = self.words[..ask.words()]
+            .iter()
+            .map(u64::to_string)
+            .collect();
+        format!("number {}, answer {}", self.number, words.join(" "))
+    }
+}
+
+/// A refusal's number and its figures, 0 for those that it lacks.
+#[derive(Clone, Copy, Debug, Eq, PartialEq)]
+pub struct Refusal {
+    pub number: u32,
+    pub figures: [u64; 2],
+}
+
+impl Refusal {
+    #[must_use]
+    pub fn new(number: u32, figures: [u64; 2]) -> Self {
+        Self { number, figures }
+    }
+
+    #[must_use]
+    pub fn reply(&self) -> Reply {
+        Reply::new(self.number, &self.figures)
+    }
+}
+
+/// Where a payload's parts stand, in bits from the carrier's first bit.
+#[derive(Clone, Debug, Eq, PartialEq)]
+pub struct Spans {
+    pub id: Range<usize>,
+    pub settings: Range<usize>,
+    pub size: Range<usize>,
+    pub body: Range<usize>,
+}
+
+/// What a reading finds in a carrier that it accepts; a payload has its spans.
+#[derive(Clone, Debug, Eq, PartialEq)]
+pub struct Found {
+    pub consumed: usize,
+    pub contents: Contents,
+    pub spans: Vec<Spans>,
+}
+
+pub type Reading = Result<Found, Refusal>;
+
+impl Found {
+    /// The body at a place, and the bit that it starts at.
+    #[must_use]
+    pub fn body(&self, place: usize) -> Option<(&[u8], usize)> {
+        let payload = self.contents.payloads.get(place)?;
+        let spans = self.spans.get(place)?;
+        Some((&payload.body, spans.body.start))
+    }
+
+    #[must_use]
+    pub fn summary(&self) -> [u64; SUMMARY_WORDS] {
+        summary(self.consumed, &self.contents)
+    }
+
+    /// A table's rows, a payload each.
+    pub fn rows(&self) -> impl Iterator<Item = [u64; ROW_WORDS]> + '_ {
+        let payloads = self.contents.payloads.iter();
+        payloads
+            .zip(&self.spans)
+            .map(|(payload, spans)| row(payload, spans))
+    }
+}
+
+/// The nine numbers of an accepted reading.
+#[must_use]
+pub fn summary(consumed: usize, contents: &Contents) -> [u64; SUMMARY_WORDS] {
+    let [primary, secondary] = [&contents.primary, &contents.secondary].map(|bytes| {
+        let number = bytes
+            .iter()
+            .fold(0, |number, &byte| number << 8 | u128::from(byte));
+        [bytes.len() as u64, (number >> 64) as u64, number as u64]
+    });
+    let mut words = [0; SUMMARY_WORDS];
+    words[0] = consumed as u64;
+    words[1] = contents.key_id;
+    words[2] = contents.payloads.len() as u64;
+    words[3..6].copy_from_slice(&primary);
+    words[6..].copy_from_slice(&secondary);
+    words
+}
+
+fn row(payload: &Payload, spans: &Spans) -> [u64; ROW_WORDS] {
+    let mut words = [0; ROW_WORDS];
+    words[0] = payload.id;
+    words[1..=SETTINGS_WORDS].copy_from_slice(&settings(&payload.settings));
+    let parts = [&spans.id, &spans.settings, &spans.size, &spans.body];
+    let bits = parts.into_iter().flat_map(|part| [part.start, part.end]);
+    for (word, bit) in words[1 + SETTINGS_WORDS..].iter_mut().zip(bits) {
+        *word = bit as u64;
+    }
+    words
+}
+
+/// Presence and value of each setting in 01's order, the two flags without a presence.
+fn settings(settings: &Settings) -> [u64; SETTINGS_WORDS] {
+    let pair = |setting: Option<u64>| [u64::from(setting.is_some()), setting.unwrap_or(0)];
+    let bit = |setting: Option<bool>| pair(setting.map(u64::from));
+    let [offset, duration, group_id] =
+        [settings.sample_offset, settings.duration, settings.group_id].map(pair);
+    let [aligned, create, remove] = [settings.aligned, settings.create, settings.remove].map(bit);
+    let [priority, processing] = [settings.priority, settings.processing].map(pair);
+    let flags = [settings.codec, settings.discard].map(u64::from);
+    let in_order = [
+        offset, duration, group_id, flags, aligned, create, remove, priority, processing,
+    ];
+    std::array::from_fn(|place| in_order[place / 2][place % 2])
+}
+
+/// As many rows as payloads can stand in a carrier of so many bytes.
+#[must_use]
+pub fn most_rows(length: usize) -> usize {
+    8 * length / LEAST_PAYLOAD
+}
+
+/// What is asked of some bytes, as it stands in a report.
+#[derive(Clone, Copy)]
+pub struct Asked<'a> {
+    pub bytes: &'a [u8],
+    pub ask: Ask,
+}
+
+impl fmt::Display for Asked<'_> {
+    fn fmt(&self, formatter: &mut fmt::Formatter<'_>) -> fmt::Result {
+        writeln!(formatter, "  call      emdf_{}", self.ask.name())?;
+        write_bytes(formatter, self.bytes)?;
+        match self.ask {
+            Ask::Classify => Ok(()),
+            Ask::Read { table } => writeln!(formatter, "  table     {table} bytes"),
+            Ask::MoveBody { place, scratch } => {
+                writeln!(formatter, "  place     {place}")?;
+                writeln!(formatter, "  scratch   {scratch} bytes")
+            }
+        }
+    }
+}

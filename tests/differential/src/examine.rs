@@ -1,0 +1,281 @@
+//! Puts the calls on a carrier to both sides and compares every figure, and all that was lent.
+
+use crate::guard::Place;
+use crate::lent::Lent;
+use crate::library::{self, Replied};
+use crate::report::{Difference, Tally};
+use crate::shrink::{self, CarrierCase};
+use differential::carrier::{most_rows, Ask, Asked, Reading, ROW, ROW_WORDS};
+use differential::facts::{Class, Facts};
+use differential::shapes::{self, SHAPES};
+use std::cell::RefCell;
+
+pub const NON_EMDF: &str = "NonEmdf";
+pub const PARSED: &str = "Parsed";
+pub const TRAILING_DATA: &str = "TrailingData";
+pub const MALFORMED: &str = "Malformed";
+
+/// How often the rarest of the eight bits of a byte was a body's first.
+pub const RAREST_PHASE: &str = "each-phase";
+
+/// How often the rarest combination of settings stood in a row.
+pub const RAREST_SETTINGS: &str = "each-settings";
+
+/// What the library is lent for one carrier after another, and what stood in those accepted.
+pub struct Examiner {
+    desk: Desk,
+    settings: [u64; SHAPES],
+    phases: [u64; 8],
+}
+
+impl Examiner {
+    #[must_use]
+    pub fn new() -> Self {
+        Self {
+            desk: Desk::new(),
+            settings: [0; SHAPES],
+            phases: [0; 8],
+        }
+    }
+
+    /// Both calls on a carrier, reading with tables of several lengths.
+    ///
+    /// # Errors
+    ///
+    /// Where the library's answer is not the original's.
+    pub fn check(&mut self, bytes: &[u8], tally: &mut Tally) -> Result<Facts, Difference> {
+        let facts = Facts::new(bytes);
+        tally.mark(class_name(facts.class));
+        self.count_settings(&facts.reading);
+        self.desk.place.put(bytes);
+        self.compare(Ask::Classify, bytes, &facts, tally)?;
+        for table in tables(bytes.len(), &facts) {
+            self.compare(Ask::Read { table }, bytes, &facts, tally)?;
+        }
+        Ok(facts)
+    }
+
+    /// The same, where a rule outside both sides gives the reading too.
+    ///
+    /// # Errors
+    ///
+    /// Where the library's answer is not the original's, or both break the rule.
+    pub fn check_with_rule(
+        &mut self,
+        bytes: &[u8],
+        ruled: &Reading,
+        tally: &mut Tally,
+    ) -> Result<(), Difference> {
+        let reading = self.check(bytes, tally)?.reading;
+        if reading == *ruled {
+            return Ok(());
+        }
+        let table = ROW * most_rows(bytes.len());
+        let ask = Ask::Read { table };
+        let case = Asked { bytes, ask };
+        let heading = "both sides agree, but not with the rule:";
+        let said = format!("  rule      {ruled:?}\n  both      {reading:?}\n");
+        Err(Difference(format!("{heading}\n{case}{said}")))
+    }
+
+    /// The bodies at these places of a carrier, with scratches of several lengths.
+    ///
+    /// # Errors
+    ///
+    /// Where the library's answer is not what the original's container gives.
+    pub fn check_bodies(
+        &mut self,
+        bytes: &[u8],
+        places: &[usize],
+        tally: &mut Tally,
+    ) -> Result<(), Difference> {
+        let facts = Facts::new(bytes);
+        self.desk.place.put(bytes);
+        for &place in places {
+            if let Some((_, start)) = facts.body(place) {
+                self.phases[start % 8] += 1;
+            }
+            for scratch in scratches(&facts, place) {
+                self.compare(Ask::MoveBody { place, scratch }, bytes, &facts, tally)?;
+            }
+        }
+        Ok(())
+    }
+
+    /// Marks the rarest settings of all carriers so far.
+    pub fn mark_settings(&self, tally: &mut Tally) {
+        let rarest = self.settings.into_iter().min().unwrap_or(0);
+        tally.mark_times(RAREST_SETTINGS, rarest);
+    }
+
+    /// Marks the rarest first bit of all bodies so far.
+    pub fn mark_phases(&self, tally: &mut Tally) {
+        let rarest = self.phases.into_iter().min().unwrap_or(0);
+        tally.mark_times(RAREST_PHASE, rarest);
+    }
+
+    fn count_settings(&mut self, reading: &Reading) {
+        if let Ok(found) = reading {
+            for payload in &found.contents.payloads {
+                self.settings[shapes::shape(&payload.settings)] += 1;
+            }
+        }
+    }
+
+    fn compare(
+        &mut self,
+        ask: Ask,
+        bytes: &[u8],
+        facts: &Facts,
+        tally: &mut Tally,
+    ) -> Result<(), Difference> {
+        tally.count(ask.name(), facts.reply(ask).number);
+        match self.desk.disagreement(ask, facts) {
+            None => Ok(()),
+            Some(said) => Err(difference(bytes, ask, said)),
+        }
+    }
+}
+
+/// Where one carrier lies, and the memory that is lent with it.
+struct Desk {
+    place: Place,
+    lent: Lent,
+}
+
+impl Desk {
+    fn new() -> Self {
+        Self {
+            place: Place::new(),
+            lent: Lent::new(),
+        }
+    }
+
+    /// What both sides said, where that is not the same in every figure and byte.
+    fn disagreement(&mut self, ask: Ask, facts: &Facts) -> Option<String> {
+        let replied = library::reply(self.place.bytes(), ask, &mut self.lent);
+        let written = facts.written(ask);
+        let agrees =
+            replied.reply == facts.reply(ask) && replied.frame_intact && self.lent.holds(written);
+        if agrees {
+            self.lent.restore(written.len());
+            return None;
+        }
+        let said = both_sides(ask, facts, &replied, &self.lent);
+        self.lent.restore_all();
+        Some(said)
+    }
+
+    fn disagreement_on(&mut self, case: &CarrierCase) -> Option<String> {
+        self.place.put(&case.bytes);
+        self.disagreement(case.ask, &Facts::new(&case.bytes))
+    }
+}
+
+fn class_name(class: Class) -> &'static str {
+    match class {
+        Class::NonEmdf => NON_EMDF,
+        Class::Parsed => PARSED,
+        Class::TrailingData => TRAILING_DATA,
+        Class::Malformed => MALFORMED,
+    }
+}
+
+/// Lengths of tables; a carrier that is refused has rows for all that could have been filled before.
+fn tables(length: usize, facts: &Facts) -> Vec<usize> {
+    let rest = 1 + length % (ROW - 1);
+    let count = facts.count();
+    let all = ROW * count;
+    match facts.reading {
+        Err(_) => vec![ROW * (most_rows(length) + 1) + rest, 0],
+        Ok(_) if count == 0 => vec![0, rest, 2 * ROW, 3 * ROW + rest],
+        Ok(_) => vec![
+            all + 2 * ROW,
+            all,
+            all - ROW,
+            all - 1,
+            0,
+            all + 3 * ROW + rest,
+        ],
+    }
+}
+
+/// Scratches for a body: just long enough, longer, one byte too short, and none.
+fn scratches(facts: &Facts, place: usize) -> Vec<usize> {
+    match facts.body(place) {
+        Some(([], _)) => vec![0, 9],
+        Some((body, _)) => vec![body.len(), body.len() + 9, body.len() - 1, 0],
+        None => vec![300, 0],
+    }
+}
+
+/// Reports the smallest carrier that differs on its own.
+#[cold]
+fn difference(bytes: &[u8], ask: Ask, first: String) -> Difference {
+    let case = CarrierCase {
+        bytes: bytes.to_vec(),
+        ask,
+    };
+    let desk = RefCell::new(Desk::new());
+    let said = |case: &CarrierCase| desk.borrow_mut().disagreement_on(case);
+    let (heading, case, said) = if said(&case).is_some() {
+        let case = shrink::smallest(case, shrink::smaller_carriers, |case| said(case).is_some());
+        let said = said(&case).unwrap_or_default();
+        ("difference, shrunk:", case, said)
+    } else {
+        let heading = "difference after earlier calls only, the call alone agrees:";
+        (heading, case, first)
+    };
+    let asked = Asked {
+        bytes: &case.bytes,
+        ask: case.ask,
+    };
+    Difference(format!("{heading}\n{asked}{said}"))
+}
+
+fn both_sides(ask: Ask, facts: &Facts, replied: &Replied, lent: &Lent) -> String {
+    let mut said = format!(
+        "  Rust      {}\n  library   {}\n",
+        facts.reply(ask).shown(ask),
+        replied.reply.shown(ask)
+    );
+    if !replied.frame_intact {
+        said += "  library   wrote beside its answer\n";
+    }
+    let written = facts.written(ask);
+    if !lent.holds(written) {
+        said += &lent_difference(ask, written, lent);
+    }
+    said
+}
+
+/// The first place where what was lent is not as it has to be.
+fn lent_difference(ask: Ask, written: &[u8], lent: &Lent) -> String {
+    let wanted = written.iter().chain(&lent.lent_before()[written.len()..]);
+    let byte = wanted
+        .zip(lent.lent())
+        .position(|(wanted, is)| wanted != is);
+    let Some(byte) = byte else {
+        return "  library   wrote beside what it was lent\n".to_string();
+    };
+    if byte >= written.len() {
+        return format!("  library   changed byte {byte} of what it was lent, which had to stay\n");
+    }
+    let (place, [wanted, is]) = if matches!(ask, Ask::Read { .. }) {
+        number_at(byte / 8, [written, lent.lent()])
+    } else {
+        let bytes = [written, lent.lent()].map(|bytes| u64::from(bytes[byte]));
+        (format!("byte {byte} of the body"), bytes)
+    };
+    format!("  Rust      {place}: {wanted}\n  library   {place}: {is}\n")
+}
+
+/// Where a number of a table stands, and what it is in each of two tables.
+fn number_at(number: usize, tables: [&[u8]; 2]) -> (String, [u64; 2]) {
+    let place = format!("row {}, number {}", number / ROW_WORDS, number % ROW_WORDS);
+    let numbers = tables.map(|table| {
+        let (numbers, _) = table.as_chunks();
+        u64::from_be_bytes(numbers[number])
+    });
+    (place, numbers)
+}

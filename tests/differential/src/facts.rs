@@ -1,0 +1,222 @@
+//! The Rust side of the calls on a carrier: the original's answers, told in the library's figures.
+
+use crate::carrier::{
+    summary, Ask, Found, Reading, Refusal, Reply, Spans, NO_PRIMARY, NO_SUCH_PLACE, NO_SYNC_WORD,
+    PADDING_NOT_ZERO, PADDING_TOO_LONG, RESERVED_NOT_ZERO, ROW, SCRATCH_TOO_SHORT, TABLE_TOO_SHORT,
+    TRUNCATED, VERSION_NOT_ZERO,
+};
+use crate::case::{TOO_FEW_BITS, TOO_MANY_GROUPS, VALUE_TOO_LARGE};
+use crate::contents::{Contents, Payload, Settings};
+use openjoc_bitio::BitError;
+use openjoc_emdf::{
+    CarrierClassification, EmdfContainer, EmdfError, EmdfPayload, EmdfPayloadBitTrace,
+    EmdfPayloadConfig, ParsedEmdfBitTrace,
+};
+
+/// The classes in the order of their numbers.
+#[derive(Clone, Copy, Debug, Eq, PartialEq)]
+pub enum Class {
+    NonEmdf = 0,
+    Parsed = 1,
+    TrailingData = 2,
+    Malformed = 3,
+}
+
+/// All that the original says of one carrier.
+pub struct Facts {
+    pub reading: Reading,
+    pub class: Class,
+    classification: Reply,
+    /// The rows of the reading, as they stand in a table.
+    rows: Vec<u8>,
+}
+
+impl Facts {
+    #[must_use]
+    pub fn new(bytes: &[u8]) -> Self {
+        let reading = reading(bytes);
+        let (class, classification) = classification(bytes);
+        let rows = match &reading {
+            Ok(found) => found.rows().flatten().flat_map(u64::to_be_bytes).collect(),
+            Err(_) => Vec::new(),
+        };
+        Self {
+            reading,
+            class,
+            classification,
+            rows,
+        }
+    }
+
+    /// The payloads of a carrier that is accepted.
+    #[must_use]
+    pub fn count(&self) -> usize {
+        self.rows.len() / ROW
+    }
+
+    #[must_use]
+    pub fn reply(&self, ask: Ask) -> Reply {
+        match ask {
+            Ask::Classify => self.classification,
+            Ask::Read { table } => self.reading_reply(table),
+            Ask::MoveBody { place, scratch } => self.body_reply(place, scratch),
+        }
+    }
+
+    /// What the first bytes of the lent memory have to be after the call; all others stay.
+    #[must_use]
+    pub fn written(&self, ask: Ask) -> &[u8] {
+        match ask {
+            Ask::Read { table } if self.count() <= table / ROW => &self.rows,
+            Ask::MoveBody { place, scratch } => match self.body(place) {
+                Some((body, start)) if start % 8 != 0 && body.len() <= scratch => body,
+                _ => &[],
+            },
+            _ => &[],
+        }
+    }
+
+    /// The body at a place of a carrier that is accepted, and the bit that it starts at.
+    #[must_use]
+    pub fn body(&self, place: usize) -> Option<(&[u8], usize)> {
+        self.reading.as_ref().ok()?.body(place)
+    }
+
+    fn reading_reply(&self, table: usize) -> Reply {
+        match &self.reading {
+            Ok(_) if table / ROW < self.count() => {
+                Refusal::new(TABLE_TOO_SHORT, [self.count() as u64, 0]).reply()
+            }
+            Ok(found) => Reply::accepted(&found.summary()),
+            Err(refusal) => refusal.reply(),
+        }
+    }
+
+    fn body_reply(&self, place: usize, scratch: usize) -> Reply {
+        if let Err(refusal) = &self.reading {
+            return refusal.reply();
+        }
+        let Some((body, start)) = self.body(place) else {
+            return Reply::new(NO_SUCH_PLACE, &[]);
+        };
+        let size = body.len() as u64;
+        if start % 8 != 0 && scratch < body.len() {
+            return Reply::new(SCRATCH_TOO_SHORT, &[size]);
+        }
+        Reply::accepted(&[start as u64, size])
+    }
+}
+
+/// What the original's reading finds, or why it refuses.
+///
+/// # Errors
+///
+/// With the refusal, in the library's figures.
+pub fn reading(bytes: &[u8]) -> Reading {
+    openjoc_emdf::parse_emdf_sync_with_bit_trace(bytes)
+        .map(found)
+        .map_err(refusal)
+}
+
+fn classification(bytes: &[u8]) -> (Class, Reply) {
+    let (class, reply) = match openjoc_emdf::classify_emdf_carrier(bytes) {
+        CarrierClassification::NonEmdf => (Class::NonEmdf, Reply::accepted(&[])),
+        CarrierClassification::Parsed(parsed) => {
+            let words = summary(parsed.bytes_consumed, &contents(parsed.container));
+            (Class::Parsed, Reply::accepted(&words))
+        }
+        CarrierClassification::TrailingData {
+            container_bytes,
+            carrier_bytes,
+        } => {
+            let words = [container_bytes, carrier_bytes].map(|bytes| bytes as u64);
+            (Class::TrailingData, Reply::accepted(&words))
+        }
+        CarrierClassification::Malformed(error) => (Class::Malformed, refusal(error).reply()),
+    };
+    (class, after_class(class, &reply))
+}
+
+/// The class is the answer's first number, the figures follow it.
+fn after_class(class: Class, reply: &Reply) -> Reply {
+    let mut words = reply.words;
+    words.rotate_right(1);
+    words[0] = class as u64;
+    Reply::new(reply.number, &words)
+}
+
+fn found(traced: ParsedEmdfBitTrace) -> Found {
+    Found {
+        consumed: traced.parsed.bytes_consumed,
+        contents: contents(traced.parsed.container),
+        spans: traced.payloads.iter().map(spans).collect(),
+    }
+}
+
+fn contents(container: EmdfContainer) -> Contents {
+    Contents {
+        key_id: container.key_id,
+        payloads: container.payloads.into_iter().map(payload).collect(),
+        primary: container.protection.primary,
+        secondary: container.protection.secondary,
+    }
+}
+
+fn payload(payload: EmdfPayload) -> Payload {
+    Payload {
+        id: payload.id,
+        settings: settings(&payload.config),
+        body: payload.data,
+    }
+}
+
+fn settings(config: &EmdfPayloadConfig) -> Settings {
+    Settings {
+        sample_offset: config.sample_offset.map(u64::from),
+        duration: config.duration,
+        group_id: config.group_id,
+        codec: config.codec_data_present,
+        discard: config.discard_unknown_payload,
+        aligned: config.payload_frame_aligned,
+        create: config.create_duplicate,
+        remove: config.remove_duplicate,
+        priority: config.priority.map(u64::from),
+        processing: config.processing_allowed.map(u64::from),
+    }
+}
+
+fn spans(trace: &EmdfPayloadBitTrace) -> Spans {
+    Spans {
+        id: trace.payload_id_start_bit..trace.payload_id_end_bit,
+        settings: trace.config_start_bit..trace.config_end_bit,
+        size: trace.payload_size_start_bit..trace.payload_size_end_bit,
+        body: trace.payload_body_start_bit..trace.payload_body_end_bit,
+    }
+}
+
+fn refusal(error: EmdfError) -> Refusal {
+    let two = |first: usize, second: usize| [first as u64, second as u64];
+    let (number, figures) = match error {
+        EmdfError::TruncatedContainer {
+            declared,
+            available,
+        } => (TRUNCATED, two(declared, available)),
+        EmdfError::InvalidSyncword { actual } => (NO_SYNC_WORD, [u64::from(actual), 0]),
+        EmdfError::Bit(BitError::EndOfInput {
+            requested,
+            remaining,
+        }) => (TOO_FEW_BITS, two(requested, remaining)),
+        EmdfError::VariableBitsGroupLimit { width, limit } => {
+            (TOO_MANY_GROUPS, [width, limit].map(u64::from))
+        }
+        EmdfError::ValueOverflow => (VALUE_TOO_LARGE, [0, 0]),
+        EmdfError::UnsupportedVersion { version } => (VERSION_NOT_ZERO, [version, 0]),
+        EmdfError::NonzeroReservedData => (RESERVED_NOT_ZERO, [0, 0]),
+        EmdfError::ReservedPrimaryProtectionLength => (NO_PRIMARY, [0, 0]),
+        EmdfError::ExcessPadding { bits } => (PADDING_TOO_LONG, [bits as u64, 0]),
+        EmdfError::NonzeroPadding => (PADDING_NOT_ZERO, [0, 0]),
+        // Its widths and bounds are fixed and fit, so 4 and 5 are not among them.
+        error => unreachable!("not a reading's refusal: {error}"),
+    };
+    Refusal::new(number, figures)
+}
