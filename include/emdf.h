@@ -26,6 +26,8 @@ enum {
     EMDF_EXCESS_PADDING = 11,     /* bits */
     EMDF_NONZERO_PADDING = 12,
     EMDF_TABLE_TOO_SHORT = 13,    /* payloads */
+    EMDF_PAYLOAD_COUNT = 14,      /* payloads with id 11, payloads with id 14 */
+    EMDF_CONFIGURATION = 15,      /* marks, how many of them are set */
     EMDF_NO_SUCH_PAYLOAD = 16,
     EMDF_SCRATCH_TOO_SHORT = 19   /* needed (bytes) */
 };
@@ -77,6 +79,46 @@ enum {
 enum {
     EMDF_BODY_START_BIT = 0,
     EMDF_BODY_LENGTH = 1
+};
+
+/* The profiles of emdf_verdict: 0, and any other number. */
+enum {
+    EMDF_STRICT = 0,
+    EMDF_COMPAT = 1
+};
+
+/* The size in bytes of emdf_verdict's answer, and where its four numbers stand. */
+#define EMDF_VERDICT_ANSWER 32
+enum {
+    EMDF_OAMD_PLACE = 0,
+    EMDF_JOC_PLACE = 1,
+    EMDF_MARKS = 2,
+    EMDF_DEVIATES = 3 /* 1 where any mark is set, else 0 */
+};
+
+/* The marks: a setting that is not as TS 103 420 table 56 wants it, and group ids that are unequal. */
+enum {
+    EMDF_MARK_OAMD_SAMPLE_OFFSET = 1 << 0,
+    EMDF_MARK_OAMD_DURATION = 1 << 1,
+    EMDF_MARK_OAMD_GROUP_ID = 1 << 2,
+    EMDF_MARK_OAMD_CODEC_DATA_PRESENT = 1 << 3,
+    EMDF_MARK_OAMD_DISCARD_UNKNOWN_PAYLOAD = 1 << 4,
+    EMDF_MARK_OAMD_PAYLOAD_FRAME_ALIGNED = 1 << 5,
+    EMDF_MARK_OAMD_CREATE_DUPLICATE = 1 << 6,
+    EMDF_MARK_OAMD_REMOVE_DUPLICATE = 1 << 7,
+    EMDF_MARK_OAMD_PRIORITY = 1 << 8,
+    EMDF_MARK_OAMD_PROCESSING_ALLOWED = 1 << 9,
+    EMDF_MARK_JOC_SAMPLE_OFFSET = 1 << 10,
+    EMDF_MARK_JOC_DURATION = 1 << 11,
+    EMDF_MARK_JOC_GROUP_ID = 1 << 12,
+    EMDF_MARK_JOC_CODEC_DATA_PRESENT = 1 << 13,
+    EMDF_MARK_JOC_DISCARD_UNKNOWN_PAYLOAD = 1 << 14,
+    EMDF_MARK_JOC_PAYLOAD_FRAME_ALIGNED = 1 << 15,
+    EMDF_MARK_JOC_CREATE_DUPLICATE = 1 << 16,
+    EMDF_MARK_JOC_REMOVE_DUPLICATE = 1 << 17,
+    EMDF_MARK_JOC_PRIORITY = 1 << 18,
+    EMDF_MARK_JOC_PROCESSING_ALLOWED = 1 << 19,
+    EMDF_MARK_GROUP_IDS_DIFFER = 1 << 20
 };
 
 /* The size in bytes of a payload's row in the table, and where its 27 numbers stand. The number before a value is 1 where
@@ -144,6 +186,9 @@ uint32_t emdf_read(const uint8_t *bytes, size_t length, uint8_t *table, size_t t
 /* Copies the body of the payload at place to the scratch, unless it starts on a byte of the carrier. */
 uint32_t emdf_move_body(const uint8_t *bytes, size_t length, size_t place, uint8_t *scratch, size_t scratch_length,
                         uint8_t *answer);
+
+/* Whether the carrier at the start of bytes meets a profile: EMDF_STRICT or EMDF_COMPAT. */
+uint32_t emdf_verdict(const uint8_t *bytes, size_t length, uint32_t profile, uint8_t *answer);
 
 #ifdef __cplusplus
 }

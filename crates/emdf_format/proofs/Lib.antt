@@ -11,3 +11,4 @@ pub mod Spans
 pub mod Lists
 pub mod Starred
 pub mod Loops
+pub mod Splice

@@ -103,7 +103,7 @@ pub data Traced (s : List ℕ) (e : ℕ) : ℕ → ℕ → List Found → Type 0
   none : {p : ℕ} → Traced s e p p []
   more : {p q r : ℕ} {x : Found} {xs : List Found} → Spans s e p q x → Traced s e q r xs → Traced s e p r (x ∷ xs)
 
-spans-stand : {s : List ℕ} {e p q : ℕ} {x : Found} → Spans s e p q x → Stands s e p q (payloadBits (payloadOf x))
+pub spans-stand : {s : List ℕ} {e p q : ℕ} {x : Found} → Spans s e p q x → Stands s e p q (payloadBits (payloadOf x))
 unfolding payloadBits
 spans-stand h = join (h .id) (join (h .config) (join (h .size) (h .body)))
 

@@ -132,7 +132,7 @@ unfolding bit.figures
 two-figures-of-bits (BitError.EndOfInput requested remaining) = omega arith
 two-figures-of-bits (BitError.InvalidWidth width) = omega arith
 
-two-figures : (why : EmdfError) → length (figures why) ≤ 2
+pub two-figures : (why : EmdfError) → length (figures why) ≤ 2
 unfolding figures
 two-figures (TruncatedContainer declared available) = omega arith
 two-figures (InvalidSyncword actual) = omega arith
@@ -147,7 +147,7 @@ two-figures (ExcessPadding bits) = omega arith
 two-figures NonzeroPadding = omega arith
 
 -- what a refusal's first two figures leave out is 0
-padded-figures : (n : ℕ) (fs : List ℕ) → length fs ≤ 2 → padded (suc (suc n)) (getD fs 0 0 ∷ getD fs 1 0 ∷ []) ≡ padded (suc (suc n)) fs
+pub padded-figures : (n : ℕ) (fs : List ℕ) → length fs ≤ 2 → padded (suc (suc n)) (getD fs 0 0 ∷ getD fs 1 0 ∷ []) ≡ padded (suc (suc n)) fs
 unfolding padded
 padded-figures n [] h = refl
 padded-figures n (a ∷ []) h = refl

@@ -1,3 +1,4 @@
 pub mod Form
 pub mod Carriers
 pub mod Protection
+pub mod Verdict

@@ -2,3 +2,4 @@ pub mod Form
 pub mod Bits
 pub mod Fields
 pub mod Carriers
+pub mod Verdict

@@ -6,18 +6,24 @@ ghost use lib.ListN.{length, getD};
 ghost use lib.Seq.{sets};
 ghost use Rattle.openjoc_bitio.specs.Cursor.{number as bitNumber, figures as bitFigures};
 ghost use Rattle.emdf_format.specs.Reading.{Found, Container, reading};
-ghost use Rattle.emdf_format.specs.Calls.{number, figures, bodyNumber, bodyFigures, recordsOf, Class, classify, moveBody, foundAt, scratchAfter};
+ghost use Rattle.emdf_format.specs.Calls.{number, figures, bodyNumber, bodyFigures, profileNumber, profileFigures, recordsOf, Class, classify, moveBody, foundAt, scratchAfter};
+ghost use Rattle.emdf_format.specs.Profile.{verdict};
 ghost use Rattle.openjoc_emdf.specs.Answers.{parsedEmdf, classAnswer};
 ghost use Rattle.openjoc_emdf.proofs.Walk.{Listed};
 ghost use Rattle.emdf_host.specs.Form.{bigEndian, words};
 ghost use Rattle.emdf_host.specs.Bits.{replyBytes, accepted, refusal, bitsReply, bitReply, windowReply, alignReply, newReply, remainingReply, readBitsReply, readBitReply, takeBitsReply, byteAlignReply, numbered, figured};
 ghost use Rattle.emdf_host.specs.Fields.{emdfRefusal, fieldReply, variableBitsReply};
 ghost use Rattle.emdf_host.specs.Carriers.{padded, parsedWords, readInto, readNumber, readWords, optionalWords, configWords, traceWords, recordWords, rowsBytes, rowsAfter, classNumber, classWords, moveNumber, moveWords};
+ghost use Rattle.emdf_host.specs.Verdict.{profileOf, verdictNumber, verdictWords, statusWord};
 use emdf_format::BodyAnswer;
 use emdf_format::BodyError;
 use emdf_format::EmdfError;
 use emdf_format::EmdfPayloadBitTrace;
 use emdf_format::EmdfPayloadConfig;
+use emdf_format::JocProfileAnswer;
+use emdf_format::JocProfileError;
+use emdf_format::JocValidationProfile;
+use emdf_format::JocValidationStatus;
 use emdf_format::Optional;
 use emdf_format::PayloadRecord;
 use openjoc_bitio::AlignAnswer;
@@ -188,6 +194,17 @@ pub extern "C" fn emdf_move_body(
 {
     let moved = emdf_bodies::move_body(bytes, place, scratch);
     put_moved(answer, moved)
+}
+
+// The verdict on the carrier: profile 0 is strict, any other number compat.
+#[no_mangle]
+pub extern "C" fn emdf_verdict(bytes: &[u8], profile: u32, answer: &mut [u8; 32]) -> u32
+    ensures { λ r. ⌜ (r ≡ verdictNumber (verdict (profileOf profile) (now (bytes .entry)))) × (now (answer .exit) ≡ words (verdictWords (verdict (profileOf profile) (now (bytes .entry))))) ⌝ }
+{
+    let judged = joc_profile::validate_joc_profile_for(bytes, profile_of(profile));
+    let values = verdict_words(judged);
+    put_words(answer, 0, &values);
+    verdict_number(judged)
 }
 
 fn field_reply(answer: FieldAnswer) -> BitReply
@@ -487,6 +504,66 @@ fn body_figures(why: BodyError) -> Figures
         BodyError::Emdf(inner) => emdf_figures(inner),
         BodyError::NoSuchPayload => with_figures(16, 0, 0),
         BodyError::ScratchTooShort { needed } => with_figures(19, needed.0 as u64, 0),
+    }
+}
+
+fn profile_of(number: u32) -> JocValidationProfile
+    ensures { λ r. ⌜ r ≡ profileOf number ⌝ }
+{
+    if number == 0 {
+        return JocValidationProfile::EtsiStrict;
+    }
+    JocValidationProfile::ObservedVendorCompat
+}
+
+// Both places, the marks and whether any is set, or a refusal's figures.
+fn verdict_words(judged: JocProfileAnswer) -> [u64; 4]
+    ensures { λ r. ⌜ r ≡ verdictWords judged ⌝ }
+{
+    match judged {
+        JocProfileAnswer::Accepted(v) => {
+            let status = v.status;
+            [
+                v.oamd as u64,
+                v.joc as u64,
+                v.deviations as u64,
+                status_word(status),
+            ]
+        }
+        JocProfileAnswer::Refused(why) => {
+            let f = profile_figures(why);
+            [f.first, f.second, 0, 0]
+        }
+    }
+}
+
+fn verdict_number(judged: JocProfileAnswer) -> u32
+    ensures { λ r. ⌜ r ≡ verdictNumber judged ⌝ }
+{
+    match judged {
+        JocProfileAnswer::Accepted(_) => 0,
+        JocProfileAnswer::Refused(why) => profile_figures(why).number,
+    }
+}
+
+fn status_word(status: JocValidationStatus) -> u64
+    ensures { λ r. ⌜ r ≡ statusWord status ⌝ }
+{
+    match status {
+        JocValidationStatus::NormativeCompliant => 0,
+        JocValidationStatus::AcceptedWithDeviation => 1,
+    }
+}
+
+fn profile_figures(why: JocProfileError) -> Figures
+    ensures { λ r. ⌜ r ≡ figured (profileNumber why) (profileFigures why) ⌝ }
+{
+    match why {
+        JocProfileError::Emdf(inner) => emdf_figures(inner),
+        JocProfileError::PayloadCount { oamd, joc } => with_figures(14, oamd as u64, joc as u64),
+        JocProfileError::Configuration { deviations, count } => {
+            with_figures(15, deviations as u64, count as u64)
+        }
     }
 }
 
