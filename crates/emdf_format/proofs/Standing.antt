@@ -1,5 +1,5 @@
 -- Bits that stand in bytes, and what each reader is proved by: it finds exactly what a writer writes. Assumes nothing.
-use mathlib.Core.Path.{_≡_, refl, ap, _∙_, subst}
+use mathlib.Core.Path.{_≡_, refl, sym, ap, _∙_, subst}
 use mathlib.Core.Bool.{Bool, true, false, not}
 use mathlib.Core.List.{List, [], _∷_}
 use Prim.Native.Nat.{ℕ, zero, suc, _+_, _-_, _*_, _/_, _%_, _^_, _≤_, _<_}
@@ -36,6 +36,15 @@ is-true false h = absurd h
 pub is-false : (t : Bool) → T (not t) → t ≡ false
 is-false true h = absurd h
 is-false false h = refl
+
+-- an answer r to a test p, asked the other way round
+pub fails : {r p : Bool} → not r ≡ true → r ≡ p → p ≡ false
+fails {r = true} h k = absurd (let w : _≡_ {A = ℕ} 0 1 = cc in omega arith)
+fails {r = false} h k = sym k
+
+pub holds : {r p : Bool} → not r ≡ false → r ≡ p → p ≡ true
+holds {r = true} h k = sym k
+holds {r = false} h k = absurd (let w : _≡_ {A = ℕ} 0 1 = cc in omega arith)
 
 pub if-yes : {A : Type 0} (t : Bool) (x y : A) → T t → (if t then x else y) ≡ x
 if-yes true x y h = refl

@@ -26,7 +26,7 @@ use Rattle.emdf_format.specs.declared.JocRole.the-variants.{Oamd}
 use Rattle.emdf_format.specs.declared.JocProfileValue.{JocProfileValue}
 use Rattle.emdf_format.specs.declared.JocProfileValue.the-variants.{Unsigned}
 use Rattle.joc_profile.specs.Pair.{passesAs}
-use Rattle.emdf_format.proofs.Standing.{is-true, is-false, neqb→ne, ne→neqb}
+use Rattle.emdf_format.proofs.Standing.{fails, holds}
 
 -- ---- values that differ
 
@@ -49,15 +49,6 @@ present-differs v Absent = refl
 present-differs v (Present w) = ap not (eqb-sym w v)
 
 -- ---- settings that pass, one after another
-
--- an answer that the code asks the other way round
-pub fails : {r p : Bool} → not r ≡ true → r ≡ p → p ≡ false
-fails {r = true} h k = absurd (let w : _≡_ {A = ℕ} 0 1 = cc in omega arith)
-fails {r = false} h k = sym k
-
-pub holds : {r p : Bool} → not r ≡ false → r ≡ p → p ≡ true
-holds {r = true} h k = sym k
-holds {r = false} h k = absurd (let w : _≡_ {A = ℕ} 0 1 = cc in omega arith)
 
 -- a deviation whose allowance was computed
 pub passes-by : {r : Bool} {a b : AllowedDeviation} (w : JocProfileValue) (o : Optional) → r ≡ passesAs w a o → a ≡ b → r ≡ passesAs w b o

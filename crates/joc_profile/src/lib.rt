@@ -4,7 +4,6 @@ ghost use mathlib.Core.Bool.{not};
 ghost use mathlib.Core.List.{List};
 ghost use Prim.Native.Nat.{_+_, _≤_, _<_, _^_};
 ghost use lib.ListN.{take, drop};
-ghost use Rattle.emdf_format.specs.Contents.{isPresent};
 ghost use Rattle.emdf_format.specs.Reading.{Found};
 ghost use Rattle.emdf_format.specs.Profile.{meets, lets, differ, onOamd, table56, marks, deviations, word, ones, allPass, meetsProfile, status, judge, verdict};
 ghost use Rattle.emdf_format.specs.declared.JocRole.the-variants.{Oamd};
@@ -309,18 +308,9 @@ fn meets_wanted(wanted: JocProfileValue, found: Optional) -> bool
     ensures { λ r. ⌜ r ≡ meets wanted found ⌝ }
 {
     match wanted {
-        JocProfileValue::Absent => !is_present(found),
-        JocProfileValue::Present => is_present(found),
+        JocProfileValue::Absent => !openjoc_emdf::is_present(found),
+        JocProfileValue::Present => openjoc_emdf::is_present(found),
         JocProfileValue::Unsigned(v) => is_value(found, v),
-    }
-}
-
-fn is_present(o: Optional) -> bool
-    ensures { λ r. ⌜ r ≡ isPresent o ⌝ }
-{
-    match o {
-        Optional::Absent => false,
-        Optional::Present(_) => true,
     }
 }
 
@@ -338,7 +328,7 @@ fn differs(a: Optional, b: Optional) -> bool
     ensures { λ r. ⌜ r ≡ differ a b ⌝ }
 {
     match a {
-        Optional::Absent => is_present(b),
+        Optional::Absent => openjoc_emdf::is_present(b),
         Optional::Present(v) => !is_value(b, v),
     }
 }

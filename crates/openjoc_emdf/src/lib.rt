@@ -368,7 +368,8 @@ fn optional_error(a: OptionalAnswer) -> EmdfError
     }
 }
 
-fn is_present(o: Optional) -> bool
+// Whether a setting is there.
+pub fn is_present(o: Optional) -> bool
     ensures { λ r. ⌜ r ≡ isPresent o ⌝ }
 {
     match o {
@@ -377,7 +378,8 @@ fn is_present(o: Optional) -> bool
     }
 }
 
-fn is_one(o: Optional) -> bool
+// Whether a setting is there and is 1.
+pub fn is_one(o: Optional) -> bool
     ensures { λ r. ⌜ r ≡ isOne o ⌝ }
 {
     match o {
@@ -386,7 +388,8 @@ fn is_one(o: Optional) -> bool
     }
 }
 
-fn has_aligned(discard: u64, offset: Optional) -> bool
+// Whether the rule wants payload_frame_aligned.
+pub fn has_aligned(discard: u64, offset: Optional) -> bool
     ensures { λ r. ⌜ r ≡ hasAligned discard offset ⌝ }
 {
     if discard != 0 {
@@ -395,7 +398,8 @@ fn has_aligned(discard: u64, offset: Optional) -> bool
     !is_present(offset)
 }
 
-fn has_priority(discard: u64, offset: Optional, aligned: Optional) -> bool
+// Whether the rule wants priority and processing.
+pub fn has_priority(discard: u64, offset: Optional, aligned: Optional) -> bool
     ensures { λ r. ⌜ r ≡ hasPriority discard offset aligned ⌝ }
 {
     if discard != 0 {

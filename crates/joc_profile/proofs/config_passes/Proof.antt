@@ -1,5 +1,6 @@
 use borrow.Author.Needs.{needs}
-use Rattle.joc_profile.proofs.Profile.{fails, holds, config-stop, config-go}
+use Rattle.emdf_format.proofs.Standing.{fails, holds}
+use Rattle.joc_profile.proofs.Profile.{config-stop, config-go}
 use Rattle.joc_profile.proofs.config_passes.Statement.{statement}
 use Rattle.joc_profile.proofs.config_passes.Tie as tie
 

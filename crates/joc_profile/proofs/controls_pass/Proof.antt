@@ -1,7 +1,8 @@
 use borrow.Author.Needs.{needs}
 use Rattle.emdf_format.specs.Profile.{table56, passes}
 use Rattle.joc_profile.specs.Pair.{passesAs}
-use Rattle.joc_profile.proofs.Profile.{passes-by, fails, holds, all-go, all-stop, all-last}
+use Rattle.emdf_format.proofs.Standing.{fails, holds}
+use Rattle.joc_profile.proofs.Profile.{passes-by, all-go, all-stop, all-last}
 use Rattle.joc_profile.proofs.controls_pass.Statement.{statement}
 use Rattle.joc_profile.proofs.controls_pass.Tie as tie
 

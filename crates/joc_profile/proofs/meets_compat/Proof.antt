@@ -1,7 +1,7 @@
 use borrow.Author.Needs.{needs}
 use Rattle.emdf_format.specs.Contents.{_&_}
 use Rattle.emdf_format.specs.Profile.{meetsProfile}
-use Rattle.joc_profile.proofs.Profile.{fails, holds}
+use Rattle.emdf_format.proofs.Standing.{fails, holds}
 use Rattle.joc_profile.proofs.meets_compat.Statement.{statement}
 use Rattle.joc_profile.proofs.meets_compat.Tie as tie
 

@@ -1,0 +1,21 @@
+-- The settings after discard: whether they are writable, and their bits. Assumes nothing.
+use mathlib.Core.Bool.{Bool}
+use Prim.Native.Nat.{ℕ, _+_}
+use Rattle.emdf_format.specs.Contents.{_&_, isOne, hasAligned, hasPriority, ruled, presentBits}
+use Rattle.emdf_format.specs.declared.EmdfPayloadConfig.{EmdfPayloadConfig}
+
+unfoldable pub writableControls : EmdfPayloadConfig → Bool
+writableControls t =
+    ruled (hasAligned (t .«discard_unknown_payload») (t .«sample_offset»)) 1 (t .«payload_frame_aligned»)
+    & ruled (isOne (t .«payload_frame_aligned»)) 1 (t .«create_duplicate»)
+    & ruled (isOne (t .«payload_frame_aligned»)) 1 (t .«remove_duplicate»)
+    & ruled (hasPriority (t .«discard_unknown_payload») (t .«sample_offset») (t .«payload_frame_aligned»)) 31 (t .priority)
+    & ruled (hasPriority (t .«discard_unknown_payload») (t .«sample_offset») (t .«payload_frame_aligned»)) 3 (t .«processing_allowed»)
+
+unfoldable pub controlBits : EmdfPayloadConfig → ℕ
+controlBits t =
+    presentBits 1 (t .«payload_frame_aligned»)
+    + presentBits 1 (t .«create_duplicate»)
+    + presentBits 1 (t .«remove_duplicate»)
+    + presentBits 5 (t .priority)
+    + presentBits 2 (t .«processing_allowed»)
