@@ -1,19 +1,24 @@
-# make test       every test: the comparison with the Rust original, emdfcheck's runs, then the proofs, must-fail edits and stored runs
-# make emdfcheck  proves and builds target/bin/emdfcheck
-# make bitfields  proves and builds target/bin/bitfields
-# make lib        proves and builds target/staticlib/libemdf_host.a, for include/emdf.h
-# make long       the comparison with the Rust original at its long length
-.PHONY: test emdfcheck bitfields lib long
+# make test        every test: the comparison with the Rust original, emdfcheck's and jocverdict's runs, then the proofs, must-fail edits and stored runs
+# make emdfcheck   proves and builds target/bin/emdfcheck
+# make jocverdict  proves and builds target/bin/jocverdict
+# make bitfields   proves and builds target/bin/bitfields
+# make lib         proves and builds target/staticlib/libemdf_host.a, for include/emdf.h
+# make long        the comparison with the Rust original at its long length
+.PHONY: test emdfcheck jocverdict bitfields lib long
 # Two runs of rt would write the same target/.
 .NOTPARALLEL:
 
-test: lib emdfcheck
+test: lib emdfcheck jocverdict
 	@tests/differential/run --short
 	@tests/emdfcheck/run
+	@tests/jocverdict/run
 	@rt ci
 
 emdfcheck:
 	@rt check emdfcheck
+
+jocverdict:
+	@rt check jocverdict
 
 bitfields:
 	@rt check bitfields

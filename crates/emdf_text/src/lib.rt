@@ -1,7 +1,12 @@
-// Decimal numbers in text, as the programs read them.
+// Text, as the programs read and write it: decimal numbers in it, and lines in a buffer.
+mod lines;
+
 ghost use mathlib.Core.Path.{_≡_};
 ghost use lib.ListN.{drop};
 ghost use Rattle.emdf_text.specs.Text.{digit, digitStep, scan, numberAt};
+pub use lines::put_bytes;
+pub use lines::put_decimal;
+pub use lines::put_line;
 
 pub enum NumberAnswer {
     // The number, and the index past its last digit.

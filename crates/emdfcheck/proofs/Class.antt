@@ -22,7 +22,7 @@ use Rattle.openjoc_emdf.specs.declared.OpenAnswer.the-variants as OpenAnswer
 use Rattle.openjoc_emdf.specs.declared.ParseAnswer.{ParseAnswer}
 use Rattle.openjoc_emdf.specs.declared.ParseAnswer.the-variants as ParseAnswer
 use Rattle.openjoc_emdf.proofs.Header.{too-short, no-sync}
-use Rattle.emdfcheck.specs.Text.{ascii, line}
+use Rattle.emdf_text.specs.Lines.{ascii, line}
 use Rattle.emdfcheck.specs.Output.{recordLines, parsedLines, classLines, output}
 use Rattle.emdfcheck.specs.Parts.{isNonEmdf, recordsIn, Opened}
 

@@ -9,7 +9,7 @@ use Rattle.emdf_format.specs.Contents.{_&_, isPresent, isOne, hasAligned, hasPr
 use Rattle.emdf_format.specs.Reader.{andThen, _>>=_, give, ask, choose, position, remaining, fromBits, bits, groupsFrom, variableBits, extendedValue, octets, present, flagged}
 use Rattle.emdf_format.specs.Reading.{reserved, sampleOffset, codecData, configControls, payloadConfig, payloadAfter, payloads, padding, containerEnd, container, consumed, reading}
 use Rattle.emdf_format.specs.Calls.{number, recordsOf, classOf, classify}
-use Rattle.emdfcheck.specs.Text.{ascii, digits, decimal, spaced, line}
+use Rattle.emdf_text.specs.Lines.{ascii, digits, decimal, spaced, line}
 use Rattle.emdfcheck.specs.Output.{recordLine, recordLines, parsedLines, classLines, output}
 
 abbrev A : List ℕ

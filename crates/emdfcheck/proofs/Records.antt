@@ -12,9 +12,10 @@ use Rattle.emdf_format.specs.Calls.{recordsOf}
 use Rattle.openjoc_emdf.specs.declared.PayloadStep.{PayloadStep}
 use Rattle.openjoc_emdf.specs.declared.PayloadStep.the-variants as PayloadStep
 use Rattle.openjoc_emdf.proofs.Walk.{Listed, listed-step, read-first, stepAt, step-found}
-use Rattle.emdfcheck.specs.Parts.{Put, recordsIn, Opened}
+use Rattle.emdfcheck.specs.Parts.{recordsIn, Opened}
+use Rattle.emdf_text.specs.Lines.{Put}
 use Rattle.emdfcheck.specs.Output.{recordLine, recordLines}
-use Rattle.emdfcheck.proofs.Put.{Leaves, nothing}
+use Rattle.emdf_text.proofs.Put.{Leaves, nothing}
 
 -- where a carrier opens, all its payloads follow
 pub all-listed : {s : List ℕ} {first : BitCursor} {at size : ℕ} (o : Opened s first at size) → Listed s first (o .container .found)

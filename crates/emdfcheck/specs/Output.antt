@@ -7,7 +7,7 @@ use Rattle.openjoc_bitio.specs.Choice.{if_then_else_}
 use Rattle.emdf_format.specs.Reading.{Container}
 use Rattle.emdf_format.specs.Calls.{number, recordsOf, Class, nonEmdf, parsed, trailingData, malformed, classify}
 use Rattle.emdf_format.specs.declared.PayloadRecord.{PayloadRecord}
-use Rattle.emdfcheck.specs.Text.{ascii, decimal, line}
+use Rattle.emdf_text.specs.Lines.{ascii, decimal, line}
 
 -- a payload's id, the four starts of id, settings, size and body, and the body's end
 unfoldable pub recordLine : PayloadRecord → List ℕ

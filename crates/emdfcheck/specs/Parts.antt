@@ -1,9 +1,9 @@
 -- What the parts of the program promise each other. Assumes nothing.
 use mathlib.Core.Path.{_≡_}
 use mathlib.Core.Bool.{Bool, true, false}
-use mathlib.Core.List.{List, [], _++_}
+use mathlib.Core.List.{List, []}
 use Prim.Native.Nat.{ℕ, _+_, _*_, _≤_}
-use lib.ListN.{length, take}
+use lib.ListN.{length}
 use Rattle.openjoc_bitio.specs.declared.BitCursor.{BitCursor}
 use Rattle.emdf_format.specs.Reading.{Container, Reading, accepted, refusal, reading}
 use Rattle.emdf_format.specs.Calls.{recordsOf}
@@ -11,12 +11,6 @@ use Rattle.emdf_format.specs.declared.PayloadRecord.{PayloadRecord}
 use Rattle.openjoc_emdf.specs.Answers.{firstPayload}
 use Rattle.openjoc_emdf.specs.declared.CarrierClassification.{CarrierClassification}
 use Rattle.openjoc_emdf.specs.declared.CarrierClassification.the-variants.{NonEmdf, Parsed, TrailingData, Malformed}
-
--- text was put at index at and ends at index end; what stood before it still does
-pub record Put (before : List ℕ) (at : ℕ) (text after : List ℕ) (end : ℕ) : Type 0 where
-  pub is : take end after ≡ take at before ++ text
-  pub size : end ≡ at + length text
-  pub inside : end ≤ length after
 
 unfoldable pub isNonEmdf : CarrierClassification → Bool
 isNonEmdf NonEmdf = true

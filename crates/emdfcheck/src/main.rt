@@ -1,7 +1,5 @@
 // Prints what carrier standard input is: its class and, of a carrier that is read, each payload's id and where its parts
 // stand. The lines are document 01's.
-mod text;
-
 ghost use Prim.Native.Nat.{_+_, _≤_};
 ghost use mathlib.Core.Path.{_≡_};
 ghost use lib.ListN.{length, take};
@@ -11,7 +9,8 @@ ghost use Rattle.emdf_format.specs.Calls.{number, classify};
 ghost use Rattle.openjoc_emdf.specs.Answers.{openAnswer};
 ghost use Rattle.openjoc_emdf.specs.declared.OpenAnswer.the-variants as OpenAnswer;
 ghost use Rattle.emdfcheck.specs.Output.{recordLine, recordLines, classLines, output};
-ghost use Rattle.emdfcheck.specs.Parts.{Put, isNonEmdf, recordsIn, Opened};
+ghost use Rattle.emdf_text.specs.Lines.{Put};
+ghost use Rattle.emdfcheck.specs.Parts.{isNonEmdf, recordsIn, Opened};
 use emdf_format::EmdfError;
 use emdf_format::PayloadRecord;
 use libc::STDIN_FILENO;
@@ -58,7 +57,7 @@ fn put_output(bytes: &[u8], out: &mut [u8]) -> usize
     ensures { λ r. ⌜ Counts r (now (out .exit)) ⌝ }
 {
     if MOST_BYTES < bytes.len() {
-        return text::put_line(out, 0, b"toolong", &[]);
+        return emdf_text::put_line(out, 0, b"toolong", &[]);
     }
     let a = openjoc_emdf::open_carrier(bytes);
     match a {
@@ -73,9 +72,9 @@ fn put_refused(bytes: &[u8], why: EmdfError, out: &mut [u8]) -> usize
     ensures { λ r. ⌜ Put (now (out .entry)) 0 (classLines (classify (now (bytes .entry)))) (now (out .exit)) r ⌝ }
 {
     if is_non_emdf(openjoc_emdf::classify_emdf_carrier(bytes)) {
-        return text::put_line(out, 0, b"nonemdf", &[]);
+        return emdf_text::put_line(out, 0, b"nonemdf", &[]);
     }
-    text::put_line(out, 0, b"malformed", &[error_number(why)])
+    emdf_text::put_line(out, 0, b"malformed", &[error_number(why)])
 }
 
 fn is_non_emdf(class: CarrierClassification) -> bool
@@ -100,14 +99,14 @@ fn put_opened(bytes: &[u8], parsed: ParsedEmdf, first: BitCursor, out: &mut [u8]
     let n = parsed.bytes_consumed.0;
     let length = bytes.len();
     if n != length {
-        return text::put_line(out, 0, b"trailing", &[n as u64, length as u64]);
+        return emdf_text::put_line(out, 0, b"trailing", &[n as u64, length as u64]);
     }
     let count = parsed.container.payloads;
     if MOST_PAYLOADS < count {
-        return text::put_line(out, 0, b"table", &[13, count as u64]);
+        return emdf_text::put_line(out, 0, b"table", &[13, count as u64]);
     }
     let key = parsed.container.key_id;
-    let end = text::put_line(out, 0, b"parsed", &[n as u64, key, count as u64]);
+    let end = emdf_text::put_line(out, 0, b"parsed", &[n as u64, key, count as u64]);
     put_records(bytes, first, out, end)
 }
 
@@ -138,7 +137,7 @@ fn put_record(out: &mut [u8], at: usize, payload: PayloadRecord) -> usize
     ensures { λ r. ⌜ Put (now (out .entry)) at (recordLine payload) (now (out .exit)) r ⌝ }
     ensures { λ r. ⌜ r ≤ at + 126 ⌝ }
 {
-    let end = text::put_decimal(out, at, payload.id);
+    let end = emdf_text::put_decimal(out, at, payload.id);
     let trace = payload.trace;
     let offsets = [
         trace.payload_id_start_bit.0 as u64,
@@ -147,7 +146,7 @@ fn put_record(out: &mut [u8], at: usize, payload: PayloadRecord) -> usize
         trace.payload_body_start_bit.0 as u64,
         trace.payload_body_end_bit.0 as u64,
     ];
-    text::put_numbers(out, end, &offsets)
+    emdf_text::put_line(out, end, b"", &offsets)
 }
 
 // A refusal's number in document 01.

@@ -1,7 +1,10 @@
-//! Measures what a reading and a classification cost, in the library and in the Rust original.
+//! Measures what the calls on a carrier cost, in the library and in the Rust original.
 
-use differential::carrier::{A, B, ROW};
+use differential::carrier::{A, B, NOT_ONE_OF_EACH, ROW};
+use differential::case::ACCEPTED;
 use differential::contents::{Contents, Payload, Settings};
+use differential::profile::{JOC, OAMD, STRICT, WANTED};
+use openjoc_emdf::JocValidationProfile;
 use std::hint::black_box;
 use std::process::ExitCode;
 use std::time::{Duration, Instant};
@@ -21,6 +24,14 @@ extern "C" {
         table_length: usize,
         answer: *mut u8,
     ) -> u32;
+    fn emdf_verdict(bytes: *const u8, length: usize, profile: u32, answer: *mut u8) -> u32;
+}
+
+struct Subject {
+    name: String,
+    carrier: Vec<u8>,
+    /// The number that strict answers.
+    verdict: u32,
 }
 
 fn main() -> ExitCode {
@@ -29,12 +40,12 @@ fn main() -> ExitCode {
         "{:<34} {:>8} {:>12} {:>12} {:>8}",
         "carrier", "call", "library", "Rust", "ratio"
     );
-    for (name, carrier) in carriers() {
-        let [library_read, rust_read, library_class, rust_class] = medians(&carrier);
-        for (call, library, rust) in [
-            ("read", library_read, rust_read),
-            ("classify", library_class, rust_class),
-        ] {
+    for subject in subjects() {
+        let name = &subject.name;
+        let calls = ["read", "classify", "verdict"];
+        let medians = medians(&subject);
+        let (pairs, _) = medians.as_chunks();
+        for (call, [library, rust]) in calls.into_iter().zip(pairs) {
             let ratio = library / rust;
             println!("{name:<34} {call:>8} {library:>12.1} {rust:>12.1} {ratio:>8.4}");
         }
@@ -42,19 +53,33 @@ fn main() -> ExitCode {
     ExitCode::SUCCESS
 }
 
-fn carriers() -> [(String, Vec<u8>); 5] {
+fn subjects() -> [Subject; 5] {
     let written = |payloads| contents(payloads).written().0;
+    let profiled = [(OAMD, 160), (JOC, 670)].map(|(id, size)| payload(id, size, WANTED));
     let carriers = [
-        ("A, no payload", A.to_vec()),
-        ("B, a body of 1 byte", B.to_vec()),
+        ("A, no payload", A.to_vec(), NOT_ONE_OF_EACH),
+        ("B, a body of 1 byte", B.to_vec(), NOT_ONE_OF_EACH),
         (
             "two payloads of the profile",
-            written(vec![profiled(11, 160), profiled(14, 670)]),
+            written(profiled.to_vec()),
+            ACCEPTED,
         ),
-        ("a body of 60,000 bytes", written(vec![plain(60_000)])),
-        ("512 payloads of 8 bytes", written(vec![plain(8); 512])),
+        (
+            "a body of 60,000 bytes",
+            written(vec![plain(60_000)]),
+            NOT_ONE_OF_EACH,
+        ),
+        (
+            "512 payloads of 8 bytes",
+            written(vec![plain(8); 512]),
+            NOT_ONE_OF_EACH,
+        ),
     ];
-    carriers.map(|(name, carrier)| (format!("{name} ({})", carrier.len()), carrier))
+    carriers.map(|(name, carrier, verdict)| Subject {
+        name: format!("{name} ({})", carrier.len()),
+        carrier,
+        verdict,
+    })
 }
 
 fn contents(payloads: Vec<Payload>) -> Contents {
@@ -70,37 +95,27 @@ fn plain(size: usize) -> Payload {
     payload(1, size, Settings::LEAST)
 }
 
-/// Settings as TS 103 420's table 56 wants them.
-fn profiled(id: u64, size: usize) -> Payload {
-    let settings = Settings {
-        group_id: Some(0),
-        codec: true,
-        aligned: Some(true),
-        create: Some(false),
-        remove: Some(false),
-        priority: Some(0),
-        processing: Some(0),
-        ..Settings::default()
-    };
-    payload(id, size, settings)
-}
-
 fn payload(id: u64, size: usize, settings: Settings) -> Payload {
     let body = (0..size).map(|place| (place * 151 + 0xc3) as u8).collect();
     Payload { id, settings, body }
 }
 
-/// Reading and class, the library first each time, all four in each round.
-fn medians(carrier: &[u8]) -> [f64; 4] {
+/// Reading, class and verdict, the library first each time, all six in each round.
+fn medians(subject: &Subject) -> [f64; 6] {
+    let Subject {
+        carrier, verdict, ..
+    } = subject;
     let mut table = vec![0; ROWS * ROW];
-    let mut calls: [Box<dyn FnMut() + '_>; 4] = [
+    let mut calls: [Box<dyn FnMut() + '_>; 6] = [
         Box::new(move || library_read(carrier, &mut table)),
         Box::new(|| rust_read(carrier)),
         Box::new(|| library_classify(carrier)),
         Box::new(|| rust_classify(carrier)),
+        Box::new(|| library_verdict(carrier, *verdict)),
+        Box::new(|| rust_verdict(carrier, *verdict)),
     ];
     let times = calls.each_mut().map(|call| times_for_a_round(call));
-    let mut rounds = [(); 4].map(|()| Vec::new());
+    let mut rounds = [(); 6].map(|()| Vec::new());
     for _ in 0..ROUNDS {
         for ((call, times), costs) in calls.iter_mut().zip(times).zip(&mut rounds) {
             costs.push(cost(call, times));
@@ -170,4 +185,24 @@ fn rust_classify(carrier: &[u8]) {
     let parsed = matches!(class, openjoc_emdf::CarrierClassification::Parsed(_));
     assert!(parsed, "a carrier that is not parsed");
     black_box(&class);
+}
+
+fn library_verdict(carrier: &[u8], verdict: u32) {
+    let carrier = black_box(carrier);
+    let mut answer = [0; 32];
+    // SAFETY: the slice is alive, and the answer has its 32 bytes.
+    let number =
+        unsafe { emdf_verdict(carrier.as_ptr(), carrier.len(), STRICT, answer.as_mut_ptr()) };
+    assert_eq!(number, verdict, "another verdict");
+    black_box(answer);
+}
+
+/// The original has no verdict on bytes; it reads them first.
+fn rust_verdict(carrier: &[u8], verdict: u32) {
+    let parsed = openjoc_emdf::parse_emdf_sync(black_box(carrier));
+    let parsed = parsed.expect("a carrier that is accepted");
+    let strict = JocValidationProfile::EtsiStrict;
+    let validated = openjoc_emdf::validate_joc_profile_for(&parsed.container, strict);
+    assert_eq!(validated.is_ok(), verdict == ACCEPTED, "another verdict");
+    black_box(&validated);
 }

@@ -13,6 +13,8 @@ pub const NO_PRIMARY: u32 = 10;
 pub const PADDING_TOO_LONG: u32 = 11;
 pub const PADDING_NOT_ZERO: u32 = 12;
 pub const TABLE_TOO_SHORT: u32 = 13;
+pub const NOT_ONE_OF_EACH: u32 = 14;
+pub const PROFILE_NOT_MET: u32 = 15;
 pub const NO_SUCH_PLACE: u32 = 16;
 pub const SCRATCH_TOO_SHORT: u32 = 19;
 
@@ -51,6 +53,7 @@ pub enum Ask {
     Classify,
     Read { table: usize },
     MoveBody { place: usize, scratch: usize },
+    Verdict { profile: u32 },
 }
 
 impl Ask {
@@ -60,6 +63,7 @@ impl Ask {
             Self::Classify => "classify",
             Self::Read { .. } => "read",
             Self::MoveBody { .. } => "move_body",
+            Self::Verdict { .. } => "verdict",
         }
     }
 
@@ -70,6 +74,7 @@ impl Ask {
             Self::Classify => MOST_WORDS,
             Self::Read { .. } => SUMMARY_WORDS,
             Self::MoveBody { .. } => 2,
+            Self::Verdict { .. } => 4,
         }
     }
 
@@ -77,7 +82,7 @@ impl Ask {
     #[must_use]
     pub fn lent(self) -> usize {
         match self {
-            Self::Classify => 0,
+            Self::Classify | Self::Verdict { .. } => 0,
             Self::Read { table } => table,
             Self::MoveBody { scratch, .. } => scratch,
         }
@@ -87,7 +92,7 @@ impl Ask {
     #[must_use]
     pub fn with_lent(self, lent: usize) -> Option<Self> {
         match self {
-            Self::Classify => None,
+            Self::Classify | Self::Verdict { .. } => None,
             Self::Read { .. } => Some(Self::Read { table: lent }),
             Self::MoveBody { place, .. } => Some(Self::MoveBody {
                 place,
@@ -258,6 +263,7 @@ impl fmt::Display for Asked<'_> {
                 writeln!(formatter, "  place     {place}")?;
                 writeln!(formatter, "  scratch   {scratch} bytes")
             }
+            Ask::Verdict { profile } => writeln!(formatter, "  profile   {profile}"),
         }
     }
 }

@@ -317,8 +317,8 @@ pub fn longest(random: &mut Random) -> Vec<Contents> {
     all
 }
 
-/// Payloads of the fewest bits, and as many as there is room for.
-fn most_payloads(random: &mut Random) -> Contents {
+/// Payloads of the fewest bits, and as many as there is room for; their ids may be any up to 30.
+pub fn most_payloads(random: &mut Random) -> Contents {
     let mut contents = shapes::draw_contents(random, 1, 0);
     contents.payloads[0] = Payload {
         id: 1 + random.up_to(29) as u64,

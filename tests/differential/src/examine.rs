@@ -3,10 +3,12 @@
 use crate::guard::Place;
 use crate::lent::Lent;
 use crate::library::{self, Replied};
+use crate::reached::Reached;
 use crate::report::{Difference, Tally};
 use crate::shrink::{self, CarrierCase};
 use differential::carrier::{most_rows, Ask, Asked, Reading, ROW, ROW_WORDS};
 use differential::facts::{Class, Facts};
+use differential::profile::{self, STRICT};
 use differential::shapes::{self, SHAPES};
 use std::cell::RefCell;
 
@@ -21,11 +23,17 @@ pub const RAREST_PHASE: &str = "each-phase";
 /// How often the rarest combination of settings stood in a row.
 pub const RAREST_SETTINGS: &str = "each-settings";
 
-/// What the library is lent for one carrier after another, and what stood in those accepted.
+/// Numbers that are compat, asked in turns; the low bits of some are all 0.
+const COMPAT: [u32; 7] = [1, 2, 3, 256, 1 << 16, 1 << 31, u32::MAX];
+
+/// What the library is lent for one carrier after another, and what was reached by them.
 pub struct Examiner {
     desk: Desk,
     settings: [u64; SHAPES],
     phases: [u64; 8],
+    pub reached: Reached,
+    /// How many verdicts of compat were asked for.
+    turns: usize,
 }
 
 impl Examiner {
@@ -35,6 +43,8 @@ impl Examiner {
             desk: Desk::new(),
             settings: [0; SHAPES],
             phases: [0; 8],
+            reached: Reached::new(),
+            turns: 0,
         }
     }
 
@@ -43,9 +53,13 @@ impl Examiner {
     /// # Errors
     ///
     /// Where the library's answer is not the original's.
-    pub fn check(&mut self, bytes: &[u8], tally: &mut Tally) -> Result<Facts, Difference> {
+    pub fn check<'a>(
+        &mut self,
+        bytes: &'a [u8],
+        tally: &mut Tally,
+    ) -> Result<Facts<'a>, Difference> {
         let facts = Facts::new(bytes);
-        tally.mark(class_name(facts.class));
+        tally.mark(class_name(facts.class()));
         self.count_settings(&facts.reading);
         self.desk.place.put(bytes);
         self.compare(Ask::Classify, bytes, &facts, tally)?;
@@ -72,10 +86,32 @@ impl Examiner {
         }
         let table = ROW * most_rows(bytes.len());
         let ask = Ask::Read { table };
-        let case = Asked { bytes, ask };
-        let heading = "both sides agree, but not with the rule:";
-        let said = format!("  rule      {ruled:?}\n  both      {reading:?}\n");
-        Err(Difference(format!("{heading}\n{case}{said}")))
+        let said = [ruled, &reading].map(|reading| format!("{reading:?}"));
+        Err(breaks_the_rule(bytes, ask, &said))
+    }
+
+    /// The verdicts on a carrier; 01's profile, on what the original reads, gives them too.
+    ///
+    /// # Errors
+    ///
+    /// Where the library's answer is not the original's, or both break the rule.
+    pub fn check_verdicts(&mut self, bytes: &[u8], tally: &mut Tally) -> Result<(), Difference> {
+        let facts = Facts::new(bytes);
+        self.compare_verdicts(bytes, &facts, &facts.reading, tally)
+    }
+
+    /// The same, where a rule outside both sides gives the reading too.
+    ///
+    /// # Errors
+    ///
+    /// Where the library's answer is not the original's, or both break the rule.
+    pub fn check_verdicts_with_rule(
+        &mut self,
+        bytes: &[u8],
+        ruled: &Reading,
+        tally: &mut Tally,
+    ) -> Result<(), Difference> {
+        self.compare_verdicts(bytes, &Facts::new(bytes), ruled, tally)
     }
 
     /// The bodies at these places of a carrier, with scratches of several lengths.
@@ -120,6 +156,29 @@ impl Examiner {
                 self.settings[shapes::shape(&payload.settings)] += 1;
             }
         }
+    }
+
+    fn compare_verdicts(
+        &mut self,
+        bytes: &[u8],
+        facts: &Facts,
+        ruled: &Reading,
+        tally: &mut Tally,
+    ) -> Result<(), Difference> {
+        self.desk.place.put(bytes);
+        self.turns += 1;
+        for profile in [STRICT, COMPAT[self.turns % COMPAT.len()]] {
+            let ask = Ask::Verdict { profile };
+            self.compare(ask, bytes, facts, tally)?;
+            let reply = facts.reply(ask);
+            self.reached.count(profile, &reply, facts.count());
+            let ruled = profile::verdict(ruled, profile);
+            if reply != ruled {
+                let said = [ruled, reply].map(|reply| reply.shown(ask));
+                return Err(breaks_the_rule(bytes, ask, &said));
+            }
+        }
+        Ok(())
     }
 
     fn compare(
@@ -207,6 +266,14 @@ fn scratches(facts: &Facts, place: usize) -> Vec<usize> {
         Some((body, _)) => vec![body.len(), body.len() + 9, body.len() - 1, 0],
         None => vec![300, 0],
     }
+}
+
+#[cold]
+fn breaks_the_rule(bytes: &[u8], ask: Ask, [rule, both]: &[String; 2]) -> Difference {
+    let case = Asked { bytes, ask };
+    let heading = "both sides agree, but not with the rule:";
+    let said = format!("  rule      {rule}\n  both      {both}\n");
+    Difference(format!("{heading}\n{case}{said}"))
 }
 
 /// Reports the smallest carrier that differs on its own.

@@ -7,11 +7,14 @@ use crate::carrier::{
 };
 use crate::case::{TOO_FEW_BITS, TOO_MANY_GROUPS, VALUE_TOO_LARGE};
 use crate::contents::{Contents, Payload, Settings};
+use crate::profile::STRICT;
+use crate::verdict::Verdicts;
 use openjoc_bitio::BitError;
 use openjoc_emdf::{
     CarrierClassification, EmdfContainer, EmdfError, EmdfPayload, EmdfPayloadBitTrace,
     EmdfPayloadConfig, ParsedEmdfBitTrace,
 };
+use std::cell::OnceCell;
 
 /// The classes in the order of their numbers.
 #[derive(Clone, Copy, Debug, Eq, PartialEq)]
@@ -22,44 +25,52 @@ pub enum Class {
     Malformed = 3,
 }
 
-/// All that the original says of one carrier.
-pub struct Facts {
+/// All that the original says of one carrier; what costs time only once it is asked for.
+pub struct Facts<'a> {
+    bytes: &'a [u8],
     pub reading: Reading,
-    pub class: Class,
-    classification: Reply,
-    /// The rows of the reading, as they stand in a table.
-    rows: Vec<u8>,
+    verdicts: Verdicts,
+    classification: OnceCell<(Class, Reply)>,
+    rows: OnceCell<Vec<u8>>,
 }
 
-impl Facts {
+impl<'a> Facts<'a> {
     #[must_use]
-    pub fn new(bytes: &[u8]) -> Self {
-        let reading = reading(bytes);
-        let (class, classification) = classification(bytes);
-        let rows = match &reading {
-            Ok(found) => found.rows().flatten().flat_map(u64::to_be_bytes).collect(),
-            Err(_) => Vec::new(),
+    pub fn new(bytes: &'a [u8]) -> Self {
+        let traced = openjoc_emdf::parse_emdf_sync_with_bit_trace(bytes).map_err(refusal);
+        let verdicts = match &traced {
+            Ok(traced) => Verdicts::new(&traced.parsed.container),
+            Err(refusal) => Verdicts::refused(refusal.reply()),
         };
         Self {
-            reading,
-            class,
-            classification,
-            rows,
+            bytes,
+            reading: traced.map(found),
+            verdicts,
+            classification: OnceCell::new(),
+            rows: OnceCell::new(),
         }
+    }
+
+    #[must_use]
+    pub fn class(&self) -> Class {
+        self.classification().0
     }
 
     /// The payloads of a carrier that is accepted.
     #[must_use]
     pub fn count(&self) -> usize {
-        self.rows.len() / ROW
+        let found = self.reading.as_ref();
+        found.map_or(0, |found| found.contents.payloads.len())
     }
 
     #[must_use]
     pub fn reply(&self, ask: Ask) -> Reply {
         match ask {
-            Ask::Classify => self.classification,
+            Ask::Classify => self.classification().1,
             Ask::Read { table } => self.reading_reply(table),
             Ask::MoveBody { place, scratch } => self.body_reply(place, scratch),
+            Ask::Verdict { profile: STRICT } => self.verdicts.strict,
+            Ask::Verdict { .. } => self.verdicts.compat,
         }
     }
 
@@ -67,7 +78,7 @@ impl Facts {
     #[must_use]
     pub fn written(&self, ask: Ask) -> &[u8] {
         match ask {
-            Ask::Read { table } if self.count() <= table / ROW => &self.rows,
+            Ask::Read { table } if self.count() <= table / ROW => self.rows(),
             Ask::MoveBody { place, scratch } => match self.body(place) {
                 Some((body, start)) if start % 8 != 0 && body.len() <= scratch => body,
                 _ => &[],
@@ -80,6 +91,20 @@ impl Facts {
     #[must_use]
     pub fn body(&self, place: usize) -> Option<(&[u8], usize)> {
         self.reading.as_ref().ok()?.body(place)
+    }
+
+    fn classification(&self) -> (Class, Reply) {
+        *self
+            .classification
+            .get_or_init(|| classification(self.bytes))
+    }
+
+    /// The rows of the reading, as they stand in a table.
+    fn rows(&self) -> &[u8] {
+        self.rows.get_or_init(|| match &self.reading {
+            Ok(found) => found.rows().flatten().flat_map(u64::to_be_bytes).collect(),
+            Err(_) => Vec::new(),
+        })
     }
 
     fn reading_reply(&self, table: usize) -> Reply {

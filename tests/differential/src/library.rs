@@ -71,6 +71,7 @@ extern "C" {
         scratch_length: usize,
         answer: *mut u8,
     ) -> u32;
+    fn emdf_verdict(bytes: *const u8, length: usize, profile: u32, answer: *mut u8) -> u32;
 }
 
 /// What the library returned and wrote.
@@ -153,6 +154,9 @@ pub fn reply(bytes: &[u8], ask: Ask, lent: &mut Lent) -> Replied {
             Ask::MoveBody { place, scratch } => replied::<16, 2>(|answer| {
                 emdf_move_body(start, length, place, memory, scratch, answer)
             }),
+            Ask::Verdict { profile } => {
+                replied::<32, 4>(|answer| emdf_verdict(start, length, profile, answer))
+            }
         }
     })
 }

@@ -12,8 +12,10 @@ mod judge;
 mod lent;
 mod library;
 mod model;
+mod reached;
 mod report;
 mod shrink;
+mod verdicts;
 
 use differential::options::Options;
 use differential::random::Random;
@@ -21,11 +23,12 @@ use report::{Group, Tally};
 use std::process::ExitCode;
 
 /// Each part's groups, run in this order.
-const PARTS: [&[Group]; 4] = [
+const PARTS: [&[Group]; 5] = [
     &bits::GROUPS,
     &fields::GROUPS,
     &carriers::GROUPS,
     &bodies::GROUPS,
+    &verdicts::GROUPS,
 ];
 
 fn main() -> ExitCode {

@@ -160,7 +160,7 @@ pub struct CarrierCase {
     pub ask: Ask,
 }
 
-/// Less in the carrier first, then shorter ones, fewer ones in the bytes, and less that is lent.
+/// Less in the carrier first, then shorter ones, fewer ones in the bytes, less lent, and a smaller number.
 pub fn smaller_carriers(case: &CarrierCase) -> Smaller<'_, CarrierCase> {
     let bytes = &case.bytes;
     let ends = amounts(bytes.len()).map(|dropped| bytes[..bytes.len() - dropped].to_vec());
@@ -176,7 +176,21 @@ pub fn smaller_carriers(case: &CarrierCase) -> Smaller<'_, CarrierCase> {
         bytes: bytes.clone(),
         ask,
     });
-    Box::new(with_an_earlier_place(case).chain(shorter).chain(less))
+    Box::new(
+        with_an_earlier_place(case)
+            .chain(shorter)
+            .chain(less)
+            .chain(with_a_smaller_profile(case)),
+    )
+}
+
+/// The smallest number that is compat, for a larger one.
+fn with_a_smaller_profile(case: &CarrierCase) -> Option<CarrierCase> {
+    let is_larger = matches!(case.ask, Ask::Verdict { profile } if profile > 1);
+    is_larger.then(|| CarrierCase {
+        bytes: case.bytes.clone(),
+        ask: Ask::Verdict { profile: 1 },
+    })
 }
 
 /// The body that is asked for, with fewer payloads before it.
@@ -231,6 +245,12 @@ fn smaller_contents(contents: &Contents) -> impl Iterator<Item = Change> {
         |contents: &mut Contents| contents.key_id = 0,
         |contents: &mut Contents| contents.primary.truncate(1),
         |contents: &mut Contents| contents.secondary.clear(),
+        // All at once, so that equal ones stay equal.
+        |contents: &mut Contents| {
+            for payload in &mut contents.payloads {
+                payload.settings.group_id = payload.settings.group_id.map(|_| 0);
+            }
+        },
     ];
     let plainer = plainer
         .into_iter()

@@ -1,6 +1,6 @@
 use borrow.Author.Needs.{needs}
 use native.Mathlib.Omega.{arith}
-use Rattle.emdfcheck.proofs.Put.{both, put-as}
+use Rattle.emdf_text.proofs.Put.{both, put-as}
 use Rattle.emdfcheck.proofs.Class.{trailing, over-table, parsed-all, opened}
 use Rattle.emdfcheck.proofs.put_opened.Statement.{statement}
 use Rattle.emdfcheck.proofs.put_opened.Tie as tie
@@ -18,7 +18,7 @@ same-length : tie.Need-same-length
 same-length c = search needs
 
 returns : tie.Need-returns
-returns c = put-as (c .before .before .put-line .ensures .0) (trailing _ _ _ (c .before .before .before .before .before .before .before .before .before .pre .0) (c .before .before .before .before .before .before .if1 .taken))
+returns c = put-as (c .before .before .put-line .ensures .put (omega arith) .0) (trailing _ _ _ (c .before .before .before .before .before .before .before .before .before .pre .0) (c .before .before .before .before .before .before .if1 .taken))
 
 slice-aggregate-put-line-3 : tie.Need-slice-aggregate-put-line-3
 slice-aggregate-put-line-3 c = search needs
@@ -33,7 +33,7 @@ same-length-2 : tie.Need-same-length-2
 same-length-2 c = search needs
 
 returns-2 : tie.Need-returns-2
-returns-2 c = put-as (c .before .before .put-line2 .ensures .0) (over-table _ _ _ (c .before .before .before .before .before .before .before .before .before .before .pre .0) (c .before .before .before .before .before .before .before .if1 .left) (omega (arith, c .before .before .before .before .before .before .if2 .taken)))
+returns-2 c = put-as (c .before .before .put-line2 .ensures .put (omega arith) .0) (over-table _ _ _ (c .before .before .before .before .before .before .before .before .before .before .pre .0) (c .before .before .before .before .before .before .before .if1 .left) (omega (arith, c .before .before .before .before .before .before .if2 .taken)))
 
 slice-aggregate-put-line-5 : tie.Need-slice-aggregate-put-line-5
 slice-aggregate-put-line-5 c = search needs
@@ -47,14 +47,14 @@ put-line-requires-3 c κs = search needs
 put-records-requires : tie.Need-put-records-requires
 put-records-requires c κs =
     let p = c .before .before .before .put-line3 in
-    opened _ _ _ (c .before .before .before .before .before .before .before .before .before .before .before .pre .0) (c .before .before .before .before .before .before .before .before .if1 .left) (omega (arith, p .ensures .1, p .kept .0, c .before .before .before .before .before .before .before .if2 .left, c .before .before .before .before .before .before .before .before .before .before .before .pre .1))
+    opened _ _ _ (c .before .before .before .before .before .before .before .before .before .before .before .pre .0) (c .before .before .before .before .before .before .before .before .if1 .left) (omega (arith, p .ensures .put (omega arith) .1, p .kept .0, c .before .before .before .before .before .before .before .if2 .left, c .before .before .before .before .before .before .before .before .before .before .before .pre .1))
 
 same-length-3 : tie.Need-same-length-3
 same-length-3 c = search needs
 
 returns-3 : tie.Need-returns-3
 returns-3 c =
-    put-as (both (c .before .before .before .before .before .before .put-line3 .ensures .0) (c .before .before .put-records .ensures)) (parsed-all _ _ _ (c .before .before .before .before .before .before .before .before .before .before .before .before .before .before .pre .0) (c .before .before .before .before .before .before .before .before .before .before .before .if1 .left) (omega (arith, c .before .before .before .before .before .before .before .before .before .before .if2 .left)))
+    put-as (both (c .before .before .before .before .before .before .put-line3 .ensures .put (omega arith) .0) (c .before .before .put-records .ensures)) (parsed-all _ _ _ (c .before .before .before .before .before .before .before .before .before .before .before .before .before .before .pre .0) (c .before .before .before .before .before .before .before .before .before .before .before .if1 .left) (omega (arith, c .before .before .before .before .before .before .before .before .before .before .if2 .left)))
 
 pub put-opened-spec : {M : Type 1} → statement M
 put-opened-spec =

@@ -2,7 +2,7 @@ use borrow.Author.Needs.{needs}
 use mathlib.Core.Path.{sym, _∙_}
 use native.Mathlib.Omega.{arith}
 use denote.Ref.{now}
-use Rattle.emdfcheck.proofs.Put.{put-as, whole}
+use Rattle.emdf_text.proofs.Put.{put-as, whole}
 use Rattle.emdfcheck.proofs.Class.{too-long, in-limit, read-refused}
 use Rattle.emdfcheck.proofs.put_output.Statement.{statement}
 use Rattle.emdfcheck.proofs.put_output.Tie as tie
@@ -20,7 +20,7 @@ same-length : tie.Need-same-length
 same-length c = search needs
 
 returns : tie.Need-returns
-returns c = whole (put-as (c .before .before .put-line .ensures .0) (too-long (now (c .before .before .before .before .before .before .before .before .before .args .bytes)) (omega (arith, c .before .before .before .before .before .before .if1 .taken))))
+returns c = whole (put-as (c .before .before .put-line .ensures .put (omega arith) .0) (too-long (now (c .before .before .before .before .before .before .before .before .before .args .bytes)) (omega (arith, c .before .before .before .before .before .before .if1 .taken))))
 
 open-carrier-requires : tie.Need-open-carrier-requires
 open-carrier-requires c κs = search needs

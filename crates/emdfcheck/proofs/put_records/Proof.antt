@@ -11,7 +11,7 @@ use Rattle.openjoc_emdf.proofs.Turns.{at-payload}
 use Rattle.openjoc_emdf.proofs.Walk.{Listed}
 use Rattle.emdfcheck.specs.Output.{recordLines}
 use Rattle.emdfcheck.specs.Parts.{recordsIn}
-use Rattle.emdfcheck.proofs.Put.{Leaves, leaves-less}
+use Rattle.emdf_text.proofs.Put.{Leaves, leaves-less}
 use Rattle.emdfcheck.proofs.Records.{all-listed, all-records, more, done}
 use Rattle.emdfcheck.proofs.put_records.Statement.{statement}
 use Rattle.emdfcheck.proofs.put_records.Tie as tie

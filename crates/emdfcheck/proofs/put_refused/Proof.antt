@@ -2,10 +2,11 @@ use borrow.Author.Needs.{needs}
 use Prim.Native.Nat.{ℕ}
 use mathlib.Core.Path.{sym, ap, _∙_}
 use mathlib.Core.List.{[], _∷_}
+use native.Mathlib.Omega.{arith}
 use denote.Ref.{now}
-use Rattle.emdfcheck.specs.Text.{ascii, line}
+use Rattle.emdf_text.specs.Lines.{ascii, line}
 use Rattle.emdfcheck.specs.Parts.{isNonEmdf}
-use Rattle.emdfcheck.proofs.Put.{put-as}
+use Rattle.emdf_text.proofs.Put.{put-as}
 use Rattle.emdfcheck.proofs.Class.{non-emdf, is-malformed}
 use Rattle.emdfcheck.proofs.put_refused.Statement.{statement}
 use Rattle.emdfcheck.proofs.put_refused.Tie as tie
@@ -32,7 +33,7 @@ returns : tie.Need-returns
 returns c =
     let s = now (c .before .before .before .before .before .before .before .before .before .before .before .args .bytes) in
     let e = sym (c .before .before .before .before .before .before .if1 .taken) ∙ c .before .before .before .before .before .before .before .is-non-emdf .ensures ∙ ap isNonEmdf (c .before .before .before .before .before .before .before .before .classify-emdf-carrier .ensures) in
-    put-as (c .before .before .put-line .ensures .0) (non-emdf s (c .before .before .before .before .before .before .before .before .before .before .before .pre .0) e)
+    put-as (c .before .before .put-line .ensures .put (omega arith) .0) (non-emdf s (c .before .before .before .before .before .before .before .before .before .before .before .pre .0) e)
 
 slice-aggregate-put-line-3 : tie.Need-slice-aggregate-put-line-3
 slice-aggregate-put-line-3 c = search needs
@@ -53,7 +54,7 @@ returns-2 : tie.Need-returns-2
 returns-2 c =
     let s = now (c .before .before .before .before .before .before .before .before .before .before .before .before .args .bytes) in
     let e = sym (c .before .before .before .before .before .before .before .if1 .left) ∙ c .before .before .before .before .before .before .before .before .is-non-emdf .ensures ∙ ap isNonEmdf (c .before .before .before .before .before .before .before .before .before .classify-emdf-carrier .ensures) in
-    put-as (c .before .before .put-line2 .ensures .0) (ap (λ (n : ℕ). line (ascii "malformed") (n ∷ [])) (c .before .before .before .before .error-number .ensures) ∙ is-malformed s (c .before .before .before .before .before .before .before .before .before .before .before .before .pre .0) e)
+    put-as (c .before .before .put-line2 .ensures .put (omega arith) .0) (ap (λ (n : ℕ). line (ascii "malformed") (n ∷ [])) (c .before .before .before .before .error-number .ensures) ∙ is-malformed s (c .before .before .before .before .before .before .before .before .before .before .before .before .pre .0) e)
 
 pub put-refused-spec : {M : Type 1} → statement M
 put-refused-spec =

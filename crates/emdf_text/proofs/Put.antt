@@ -1,0 +1,92 @@
+-- Text put at an index, byte by byte and part by part. Assumes nothing.
+use mathlib.Core.Path.{_≡_, refl, sym, ap, _∙_}
+use mathlib.Core.List.{List, [], _∷_, _++_, append-nil, append-assoc}
+use Prim.Native.Nat.{ℕ, suc, _+_, _≤_, _<_}
+use mathlib.Core.Bool.{Bool, true, false, not}
+use borrow.Author.Tests.{leb-true, leb-false}
+use lib.Dec.{leb}
+use native.Mathlib.Nat.{add-zero}
+use native.Mathlib.Numerals.{add-one}
+use native.Mathlib.Omega.{arith}
+use lib.ListN.{length, getD, set, take, drop, length-set, length-append}
+use lib.Seq.{length-take-le, take-length, drop-length, take-suc, drop-cons, take-suc-set}
+use Rattle.io.specs.Counts.{Counts}
+use Rattle.emdf_text.specs.Lines.{decimal, spaced, Put, PutWithin}
+
+-- ---- bytes
+
+pub one-byte : (before : List ℕ) (at b : ℕ) → at < length before → Put before at (b ∷ []) (set before at b) (at + 1)
+one-byte before at b h = record { is = rw add-one (take-suc-set before at b h); size = refl; inside = rw length-set (omega arith) }
+
+-- one byte more of a text
+pub more-bytes : (before text after : List ℕ) (at i : ℕ) → at + i < length after → i < length text
+    → take (at + i) after ≡ take at before ++ take i text
+    → take (at + (i + 1)) (set after (at + i) (getD text i 0)) ≡ take at before ++ take (i + 1) text
+more-bytes before text after at i h k e =
+    let z : at + (i + 1) ≡ suc (at + i) = omega arith in
+    rw (z, take-suc-set after (at + i) (getD text i 0) h, e, add-one, take-suc text i 0 k) (append-assoc (take at before) (take i text) (getD text i 0 ∷ []))
+
+-- all of it
+pub all-bytes : (before text after : List ℕ) (at i : ℕ) → i ≡ length text → at + i ≤ length after → take (at + i) after ≡ take at before ++ take i text → Put before at text after (at + i)
+all-bytes before text after at i e l h = record { is = h ∙ rw (e, take-length); size = rw e; inside = l }
+
+-- ---- parts
+
+pub nothing : (before : List ℕ) (at : ℕ) → at ≤ length before → Put before at [] before at
+nothing before at h = record { is = sym (append-nil _); size = rw add-zero; inside = h }
+
+-- a text, and another one after it
+pub both : {before middle after first second : List ℕ} {at mid end : ℕ} → Put before at first middle mid → Put middle mid second after end → Put before at (first ++ second) after end
+both {before} {middle} {after} {first} {second} {at} {mid} {end} p q =
+    record {
+      is = q .is ∙ ap (λ (x : List ℕ). x ++ second) (p .is) ∙ append-assoc (take at before) first second;
+      size = rw length-append (omega (arith, p .size, q .size));
+      inside = q .inside;
+    }
+
+pub put-as : {before text text′ after : List ℕ} {at end : ℕ} → Put before at text after end → text ≡ text′ → Put before at text′ after end
+put-as p e = rw e at p
+
+-- at the start
+pub whole : {before text after : List ℕ} {end : ℕ} → Put before 0 text after end → (take end after ≡ text) × Counts end after
+whole {before} {text} {after} {end} p = (p .is, (p .inside, sym (length-take-le end after (p .inside))))
+
+-- ---- room
+
+pub has-put : {before text after : List ℕ} {at end most : ℕ} → at + most ≤ length before → Put before at text after end → end ≤ at + most → PutWithin most before at text after end
+has-put h p l = record { put = λ r. (p, l); left = λ r. absurd (omega arith) }
+
+pub left-out : {before text : List ℕ} {at most : ℕ} → length before < at + most → PutWithin most before at text before at
+left-out h = record { put = λ r. absurd (omega arith); left = λ r. (refl, refl) }
+
+module _ {t : Bool} (need size : ℕ) (e : t ≡ leb need size) where
+  pub room : not t ≡ false → need ≤ size
+  room h = go t h e
+    where
+      go : (t : Bool) → not t ≡ false → t ≡ leb need size → need ≤ size
+      go true h e = leb-true need size (sym e)
+      go false h e = absurd (let z : _≡_ {A = ℕ} 0 1 = cc in omega arith)
+
+  pub no-room : not t ≡ true → size < need
+  no-room h = go t h e
+    where
+      go : (t : Bool) → not t ≡ true → t ≡ leb need size → size < need
+      go true h e = absurd (let z : _≡_ {A = ℕ} 0 1 = cc in omega arith)
+      go false h e = leb-false need size (sym e)
+
+-- where the rest is put at index mid, the whole text stands at index at
+abbrev pub Leaves : List ℕ → ℕ → List ℕ → List ℕ → ℕ → List ℕ → Type 0
+Leaves before at text middle mid rest = (after : List ℕ) (end : ℕ) → Put middle mid rest after end → Put before at text after end
+
+pub leaves-less : {before text middle next first rest : List ℕ} {at mid end : ℕ} → Leaves before at text middle mid (first ++ rest) → Put middle mid first next end → Leaves before at text next end rest
+leaves-less f p after end q = f after end (both p q)
+
+-- ---- numbers after a word
+
+pub more-numbers : (ns : List ℕ) (i : ℕ) → i < length ns → spaced (drop i ns) ≡ (32 ∷ decimal (getD ns i 0)) ++ spaced (drop (i + 1) ns)
+unfolding spaced
+more-numbers ns i h = rw (add-one, drop-cons ns i 0 h)
+
+pub no-numbers : (ns : List ℕ) (i : ℕ) → i ≡ length ns → spaced (drop i ns) ≡ 10 ∷ []
+unfolding spaced
+no-numbers ns i e = rw (e, drop-length)
