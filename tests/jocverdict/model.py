@@ -2,8 +2,8 @@
 
 # The ten settings in their order: name, Annex H's name, and what table 56 wants.
 FIELDS = [
-    ("sample_offset", "smploffst", "absent"),
-    ("duration", "duration", "absent"),
+    ("sample_offset", "smploffste", "absent"),
+    ("duration", "duratione", "absent"),
     ("group_id", "groupid", "present"),
     ("codec", "codecdatae", 1),
     ("discard", "discard_unknown_payload", 0),

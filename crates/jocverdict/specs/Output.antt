@@ -38,8 +38,8 @@ profileNamed word =
 -- Annex H's names of the ten settings, and what table 56 wants
 unfoldable pub fields : List (List ℕ)
 fields =
-    ascii "smploffst: wanted absent\n"
-    ∷ ascii "duration: wanted absent\n"
+    ascii "smploffste: wanted absent\n"
+    ∷ ascii "duratione: wanted absent\n"
     ∷ ascii "groupid: wanted present\n"
     ∷ ascii "codecdatae: wanted 1\n"
     ∷ ascii "discard_unknown_payload: wanted 0\n"

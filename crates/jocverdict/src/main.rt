@@ -250,8 +250,8 @@ fn put_head(out: &mut [u8], at: usize, i: usize) -> usize
     ensures { λ r. ⌜ r ≤ at + 34 ⌝ }
 {
     match i {
-        0 => emdf_text::put_bytes(out, at, b"smploffst: wanted absent\n"),
-        1 => emdf_text::put_bytes(out, at, b"duration: wanted absent\n"),
+        0 => emdf_text::put_bytes(out, at, b"smploffste: wanted absent\n"),
+        1 => emdf_text::put_bytes(out, at, b"duratione: wanted absent\n"),
         2 => emdf_text::put_bytes(out, at, b"groupid: wanted present\n"),
         3 => emdf_text::put_bytes(out, at, b"codecdatae: wanted 1\n"),
         _ => emdf_text::put_bytes(out, at, b"discard_unknown_payload: wanted 0\n"),
