@@ -26,7 +26,7 @@ unfoldable pub listBits : List Payload → List ℕ
 listBits [] = []
 listBits (x ∷ xs) = payloadBits x ⨟ listBits xs
 
-⨟-assoc : (xs ys zs : List ℕ) → (xs ⨟ ys) ⨟ zs ≡ xs ⨟ ys ⨟ zs
+pub ⨟-assoc : (xs ys zs : List ℕ) → (xs ⨟ ys) ⨟ zs ≡ xs ⨟ ys ⨟ zs
 unfolding _⨟_
 ⨟-assoc xs ys zs = append-assoc xs ys zs
 

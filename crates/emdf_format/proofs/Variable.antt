@@ -21,7 +21,7 @@ before-zero zero w = refl
 before-zero (suc f) w = refl
 
 -- any fuel that is large enough gives the same
-before-fuel : (w f g k : ℕ) → k ≤ f → k ≤ g → groupsBefore f w k ≡ groupsBefore g w k
+pub before-fuel : (w f g k : ℕ) → k ≤ f → k ≤ g → groupsBefore f w k ≡ groupsBefore g w k
 unfolding groupsBefore
 before-fuel w zero g zero h i = sym (before-zero g w)
 before-fuel w zero g (suc u) h i = absurd (omega arith)

@@ -67,7 +67,7 @@ octet-stored l i b h =
     rw z at (byte-stored l i 0 b (numberBits 8 b) h (omega (arith, length-number 8 b)) (sym (sets-all _ _ n)))
 
 -- the bits of a number in two parts
-number-split : (n t v : ℕ) → numberBits (n + t) v ≡ numberBits n (v / 2 ^ t) ++ numberBits t v
+pub number-split : (n t v : ℕ) → numberBits (n + t) v ≡ numberBits n (v / 2 ^ t) ++ numberBits t v
 unfolding numberBits
 number-split zero t v = rw zero-add
 number-split (suc n) t v =

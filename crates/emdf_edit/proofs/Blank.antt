@@ -1,0 +1,120 @@
+-- The blank carrier: its bits in the order of writing, and what the call answers. Assumes nothing.
+use mathlib.Core.Path.{_≡_, refl, sym, ap, _∙_, subst}
+use mathlib.Core.Bool.{Bool, true, false}
+use mathlib.Core.List.{List, [], _∷_, _++_, append-nil}
+use Prim.Native.Nat.{ℕ, zero, suc, _+_, _-_, _*_, _^_, _<_, _≤_}
+use native.Mathlib.Omega.{arith}
+use lib.ListN.{length, take, drop, take-append-drop}
+use lib.Seq.{sets, length-take-le, drop-length}
+use lib.Dec.{T, ltb, eqb→eq, lit<}
+use borrow.Author.Tests.{lt-ltb, le-leb, lt-leb}
+use Rattle.openjoc_bitio.specs.Choice.{if_then_else_}
+use Rattle.openjoc_bitio.specs.Bits.{numberBits}
+use Rattle.openjoc_bitio.proofs.Bits.{length-number}
+use Rattle.emdf_format.specs.declared.EditError.the-variants.{NotWritable, DestinationTooShort}
+use Rattle.emdf_format.specs.declared.EditAnswer.{EditAnswer}
+use Rattle.emdf_format.specs.declared.EditAnswer.the-variants.{Written, Refused}
+use Rattle.emdf_format.specs.Syntax.{_⨟_, groups, escape, extendedField, octetBits}
+use Rattle.emdf_format.specs.Contents.{Contents, _&_, protectionLength, protectionCode, codable, writable, writablePayloads, extensionBits, declared, payloadsBits, protectionBits, containerBits, carrierBits, carrier}
+use Rattle.emdf_format.specs.Edits.{Bytes, carrierLength, inRoom, stepAnswer, written, blank}
+use Rattle.emdf_format.proofs.Standing.{length-then, both}
+use Rattle.emdf_format.proofs.Bytes.{declared-is}
+use Rattle.emdf_format.proofs.Splice.{⨟-assoc, written-bytes}
+use Rattle.emdf_contents.proofs.Asked.{groups-few}
+use Rattle.emdf_edit.specs.Fields.{blankContents, writableProtection, headerBits}
+use Rattle.emdf_edit.proofs.Putting.{length-header}
+
+-- ---- sizes
+
+pub extension-few : (key : ℕ) → key < 2 ^ 64 → extensionBits 3 key ≤ 256
+unfolding extensionBits
+extension-few key h = go (ltb key (escape 3))
+  where
+    go : (t : Bool) → (if t then 0 else (3 + 1) * groups 3 (key - escape 3)) ≤ 256
+    go true = omega arith
+    go false = omega (arith, groups-few 3 (key - escape 3) (lit< tt) (omega arith))
+
+protection-short : (c : ℕ) → protectionLength c ≤ 16
+unfolding protectionLength
+protection-short zero = omega arith
+protection-short (suc zero) = omega arith
+protection-short (suc (suc zero)) = omega arith
+protection-short (suc (suc (suc c))) = omega arith
+
+codable-short : (n : ℕ) → T (codable n) → n ≤ 16
+unfolding codable
+codable-short n h = let e : n ≡ protectionLength (protectionCode n) = eqb→eq n _ h in omega (arith, e, protection-short (protectionCode n))
+
+pub writable-short : (a b : List ℕ) → writableProtection a b ≡ true → (length a ≤ 16) × (length b ≤ 16)
+unfolding writableProtection
+writable-short a b h =
+    let t = both (both (subst T (sym h) tt) .right) in
+    (codable-short (length a) (t .left), codable-short (length b) (t .right))
+
+module _ (key : ℕ) (a b : List ℕ) where
+  abbrev c : Contents
+  c = blankContents key a b
+
+  -- ---- bits
+
+  length-blank : length (containerBits c) ≡ 7 + (length (extendedField 3 key) + length (protectionBits a b))
+  unfolding containerBits payloadsBits
+  length-blank = simp (length-then, length-number) (omega arith)
+
+  blank-parts : carrierBits c ≡ headerBits (declared c) key ⨟ numberBits 5 0 ⨟ protectionBits a b ⨟ numberBits (8 * declared c - length (containerBits c)) 0
+  unfolding carrierBits containerBits payloadsBits headerBits
+  blank-parts = simp ⨟-assoc
+
+  module _ (size : ℕ) (e : size ≡ declared c) where
+    abbrev before : ℕ
+    before = length (headerBits size key) + 5 + length (protectionBits a b)
+
+    -- what is put before the padding ends less than a byte before the carrier does
+    pub blank-size : (before ≤ (4 + size) * 8) × ((4 + size) * 8 < before + 8)
+    blank-size = let d = declared-is c in omega (arith, e, d .0, d .1, length-blank, length-header size key)
+
+    pub blank-bits : (end : ℕ) → end ≡ before → headerBits size key ⨟ numberBits 5 0 ⨟ protectionBits a b ⨟ numberBits ((4 + size) * 8 - end) 0 ≡ carrierBits c
+    blank-bits end h =
+        let z : (4 + size) * 8 - end ≡ 8 * declared c - length (containerBits c) = omega (arith, h, e, length-blank, length-header size key) in
+        rw (z, e) (sym blank-parts)
+
+  -- ---- the call
+
+  module _ (dst : List ℕ) (key-fits : key < 2 ^ 64) where
+    writable-blank : writable c ≡ writableProtection a b
+    unfolding writable writablePayloads writableProtection _&_
+    writable-blank = simp (lt-ltb key (2 ^ 64) key-fits)
+
+    abbrev Answers : EditAnswer → List ℕ → Type 0
+    Answers r d = (r ≡ blank key a b dst .answer) × (d ≡ blank key a b dst .destination)
+
+    pub not-writable : writableProtection a b ≡ false → Answers (Refused NotWritable) dst
+    unfolding blank stepAnswer written
+    not-writable h = rw (writable-blank, h) (refl, refl)
+
+    module _ (ok : writableProtection a b ≡ true) (n : ℕ) (e : n ≡ carrierLength c) where
+      pub no-room : length dst < n → Answers (Refused (DestinationTooShort (record { 0 = n }))) dst
+      unfolding blank inRoom stepAnswer written
+      no-room h = let l : length dst < carrierLength c = omega arith in simp (writable-blank, ok, lt-leb (carrierLength c) (length dst) l, e) (refl, refl)
+
+      pub in-room : n ≤ length dst → {d : List ℕ} → d ≡ carrier c ++ drop n dst → Answers (Written (record { 0 = n })) d
+      unfolding blank inRoom stepAnswer written
+      in-room h {d} k = let l : carrierLength c ≤ length dst = omega arith in simp (writable-blank, ok, le-leb (carrierLength c) (length dst) l, e) (refl, k ∙ ap (λ (m : ℕ). carrier c ++ drop m dst) e)
+
+-- ---- the bytes that are written
+
+bytes-front : (xs ys : List ℕ) → Bytes (xs ++ ys) → Bytes xs
+bytes-front [] ys f k = lit< tt
+bytes-front (x ∷ xs) ys f zero = f 0
+bytes-front (x ∷ xs) ys f (suc k) = bytes-front xs ys (λ i. f (suc i)) k
+
+-- p is what stands in the first n bytes of dst after their bits are put
+pub front-written : (c : Contents) (n : ℕ) (dst p : List ℕ) → n ≡ carrierLength c → n ≤ length dst → Bytes dst → Bytes (p ++ drop n dst)
+    → octetBits p ≡ sets (octetBits (take n dst)) 0 (carrierBits c) → p ++ drop n dst ≡ carrier c ++ drop n dst
+front-written c n dst p e h f g k =
+    let l : length (take n dst) ≡ n = length-take-le n dst h in
+    let t : Bytes (take n dst) = bytes-front (take n dst) (drop n dst) (subst Bytes (sym (take-append-drop n dst)) f) in
+    let w : p ≡ carrier c ++ drop (carrierLength c) (take n dst) = written-bytes c (take n dst) p t (bytes-front p (drop n dst) g) (omega (arith, l, e)) k in
+    let z : carrierLength c ≡ length (take n dst) = omega (arith, l, e) in
+    let q : carrier c ++ drop (carrierLength c) (take n dst) ≡ carrier c = rw (z, drop-length) (append-nil (carrier c)) in
+    ap (λ (x : List ℕ). x ++ drop n dst) (w ∙ q)
