@@ -4,10 +4,10 @@ use mathlib.Core.Bool.{Bool, true, false, not}
 use Prim.Native.Nat.{ℕ, zero, suc, _+_, _-_, _*_, _/_, _^_, _≤_, _<_}
 use native.Mathlib.Omega.{arith}
 use native.Mathlib.Nat.{le-trans, mul-le-mul-right}
-use lib.Pow.{pow-pos, pow-mono}
+use lib.Pow.{pow-mono}
 use lib.Pow.{shr-le}
 use Rattle.emdf_format.specs.Syntax.{capacity, countBefore, groups}
-use Rattle.emdf_format.specs.Contents.{_&_, iff, isPresent, ruled}
+use Rattle.emdf_format.specs.Contents.{_&_, iff, ruled}
 use Rattle.emdf_format.specs.declared.Optional.{Optional}
 use Rattle.emdf_format.proofs.Variable.{groups-least}
 

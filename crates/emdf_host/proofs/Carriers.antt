@@ -12,7 +12,7 @@ use Rattle.openjoc_bitio.specs.declared.BitCursor.{BitCursor}
 use Rattle.openjoc_bitio.specs.declared.BitError.{BitError}
 use Rattle.openjoc_bitio.specs.declared.BitError.the-variants as BitError
 use Rattle.openjoc_bitio.specs.Cursor as bit
-use Rattle.emdf_format.specs.Reading.{Found, Container, Reading, accepted, refusal, reading}
+use Rattle.emdf_format.specs.Reading.{Found, Container, reading}
 use Rattle.emdf_format.specs.Calls.{number, figures, recordsNumber, recordsFigures, bodyNumber, bodyFigures, recordsOf, inTable, Records, unrecorded, Class, nonEmdf, parsed, trailingData, malformed}
 use Rattle.emdf_format.specs.declared.EmdfError.{EmdfError}
 use Rattle.emdf_format.specs.declared.EmdfError.the-variants.{TruncatedContainer, InvalidSyncword, Bit, InvalidVariableBits, VariableBitsGroupLimit, ValueOverflow, UnsupportedVersion, NonzeroReservedData, ReservedPrimaryProtectionLength, ExcessPadding, NonzeroPadding}

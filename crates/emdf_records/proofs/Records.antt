@@ -8,9 +8,8 @@ use native.Mathlib.Nat.{zero-add}
 use lib.ListN.{length, take}
 use lib.Seq.{sets, sets-eq}
 use lib.Dec.{leb, leb→le}
-use Rattle.openjoc_bitio.specs.Choice.{if_then_else_}
 use Rattle.openjoc_bitio.specs.declared.BitCursor.{BitCursor}
-use Rattle.emdf_format.specs.Reading.{Found, Container, Reading, accepted, refusal, reading}
+use Rattle.emdf_format.specs.Reading.{Found, Reading, accepted, refusal, reading}
 use Rattle.emdf_format.specs.Calls.{recordsOf, Records, recorded, unrecorded, inTable, tableAfter}
 use Rattle.emdf_format.specs.declared.EmdfError.{EmdfError}
 use Rattle.emdf_format.specs.declared.PayloadRecord.{PayloadRecord}

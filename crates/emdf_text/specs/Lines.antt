@@ -5,7 +5,7 @@ use Prim.Native.String.{String, [] as nil, _∷_ as cons}
 use mathlib.Core.Path.{_≡_}
 use mathlib.Core.Bool.{cond}
 use mathlib.Core.List.{List, [], _∷_, _++_}
-use lib.ListN.{length, take}
+use lib.ListN.{length, take, drop}
 use lib.Dec.{ltb}
 
 abbrev pub ascii : String → List ℕ
@@ -28,9 +28,10 @@ spaced (n ∷ ns) = 32 ∷ decimal n ++ spaced ns
 unfoldable pub line : List ℕ → List ℕ → List ℕ
 line word ns = word ++ spaced ns
 
--- text was put at index at and ends at index end; what stood before it still does
+-- text was put at index at and ends at index end; what stood before and after it still does
 pub record Put (before : List ℕ) (at : ℕ) (text after : List ℕ) (end : ℕ) : Type 0 where
   pub is : take end after ≡ take at before ++ text
+  pub rest : drop end after ≡ drop end before
   pub size : end ≡ at + length text
   pub inside : end ≤ length after
 

@@ -8,10 +8,10 @@ use native.Mathlib.Omega.{arith}
 use lib.Dec.{eqb}
 use types.Run.{OneOf, miss}
 use denote.Enum.Declared.{tagOf}
-use borrow.Author.Tests.{eq-eqb, ne-eqb}
+use borrow.Author.Tests.{ne-eqb}
 use Rattle.openjoc_bitio.specs.Choice.{if_then_else_}
 use Rattle.openjoc_bitio.specs.declared.BitCursor.{BitCursor}
-use Rattle.emdf_format.specs.Reading.{Found, Container, accepted, refusal, reading}
+use Rattle.emdf_format.specs.Reading.{Found, Container, accepted, reading}
 use Rattle.emdf_format.specs.Profile.{countId, firstId, onlyId, judge, judged, verdictOn, verdict}
 use Rattle.emdf_format.specs.declared.JocValidationProfile.{JocValidationProfile}
 use Rattle.emdf_format.specs.declared.JocProfileError.the-variants.{Emdf, PayloadCount}

@@ -1,13 +1,12 @@
 -- Laws of the verdict: values that differ, settings that pass, marks in a word. Assumes nothing.
 use mathlib.Core.Path.{_≡_, refl, sym, ap, _∙_}
-use mathlib.Core.Bool.{Bool, true, false, not, _||_}
+use mathlib.Core.Bool.{Bool, true, false, not}
 use mathlib.Core.List.{List, [], _∷_, _++_}
-use Prim.Native.Nat.{ℕ, zero, suc, _+_, _*_, _/_, _%_, _^_, _<_}
+use Prim.Native.Nat.{ℕ, _+_, _*_, _/_, _%_, _^_, _<_}
 use native.Mathlib.Omega.{arith}
-use native.Mathlib.Nat.{pow-suc}
 use lib.Count.{ones-step}
 use lib.Count.{ones as onesIn}
-use lib.Dec.{eqb, lit<, eqb→eq, eqb-refl}
+use lib.Dec.{eqb, lit<, eqb→eq}
 use lib.ListN.{length, take, drop}
 use Rattle.openjoc_bitio.specs.Choice.{if_then_else_}
 use Rattle.emdf_format.specs.Contents.{_&_, isPresent}
@@ -93,11 +92,6 @@ unfolding _&_
 config-go role t h k = k ∙ sym (config-split role t ∙ rw h)
 
 -- ---- marks in a word
-
-pub word-split : (xs ys : List Bool) → word (xs ++ ys) ≡ word xs + 2 ^ length xs * word ys
-unfolding word
-word-split [] ys = omega arith
-word-split (x ∷ xs) ys = rw (word-split xs ys, pow-suc) (omega arith)
 
 pub bit-small : (b : Bool) → (if b then 1 else 0) < 2
 bit-small true = lit< tt

@@ -1,12 +1,11 @@
 -- The payloads of a carrier that is read, one after another, as a caller of next_payload meets them. Assumes nothing.
-use mathlib.Core.Path.{_≡_, refl, sym, ap, _∙_}
+use mathlib.Core.Path.{_≡_, refl, sym, _∙_}
 use mathlib.Core.List.{List, [], _∷_}
 use Prim.Native.Nat.{ℕ, zero, suc, _*_, _^_, _≤_, _<_}
 use native.Mathlib.Omega.{arith}
 use lib.ListN.{length, take}
 use Rattle.openjoc_bitio.specs.declared.BitCursor.{BitCursor}
-use Rattle.openjoc_bitio.proofs.Bits.{value-range}
-use Rattle.emdf_format.specs.Reader.{got, cursorAt, _>>=_, give, ask}
+use Rattle.emdf_format.specs.Reader.{got, cursorAt, _>>=_}
 use Rattle.emdf_format.specs.declared.EmdfError.{EmdfError}
 use Rattle.emdf_format.specs.declared.PayloadRecord.{PayloadRecord}
 use Rattle.emdf_format.specs.Reading.{Found, Container, Reading, accepted, refusal, reading, payloads}

@@ -1,5 +1,4 @@
 use lib.Dec.{lit<}
-use mathlib.Core.Path.{refl}
 use Rattle.joc_profile.specs.Pair.{bitOf}
 use Rattle.joc_profile.proofs.bit.Statement.{statement}
 use Rattle.joc_profile.proofs.bit.Tie as tie
