@@ -1,9 +1,13 @@
--- The settings after discard: whether they are writable, and their bits. Assumes nothing.
-use mathlib.Core.Bool.{Bool}
+-- Parts of contents: whether they are writable, and their bits. Assumes nothing.
+use mathlib.Core.Bool.{Bool, not}
+use mathlib.Core.List.{List}
 use Prim.Native.Nat.{ℕ, _+_}
-use Rattle.emdf_format.specs.Contents.{_&_, isOne, hasAligned, hasPriority, ruled, presentBits}
+use lib.ListN.{length}
+use lib.Dec.{eqb}
+use Rattle.emdf_format.specs.Contents.{_&_, codable, isOne, hasAligned, hasPriority, ruled, presentBits}
 use Rattle.emdf_format.specs.declared.EmdfPayloadConfig.{EmdfPayloadConfig}
 
+-- the settings after discard
 unfoldable pub writableControls : EmdfPayloadConfig → Bool
 writableControls t =
     ruled (hasAligned (t .«discard_unknown_payload») (t .«sample_offset»)) 1 (t .«payload_frame_aligned»)
@@ -19,3 +23,7 @@ controlBits t =
     + presentBits 1 (t .«remove_duplicate»)
     + presentBits 5 (t .priority)
     + presentBits 2 (t .«processing_allowed»)
+
+-- protections that have a code, the first of them not empty
+unfoldable pub writableProtection : List ℕ → List ℕ → Bool
+writableProtection a b = not (eqb (length a) 0) & codable (length a) & codable (length b)

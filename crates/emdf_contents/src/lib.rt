@@ -4,7 +4,7 @@ ghost use Prim.Native.Nat.{_+_, _*_, _≤_, _<_};
 ghost use lib.Dec.{leb};
 ghost use Rattle.emdf_format.specs.Syntax.{groups};
 ghost use Rattle.emdf_format.specs.Contents.{whenPresent, upTo, ruled, writableConfig, protectionCode, codable, extensionBits, flaggedBits, presentBits, neededConfig};
-ghost use Rattle.emdf_contents.specs.Parts.{writableControls, controlBits};
+ghost use Rattle.emdf_contents.specs.Parts.{writableControls, controlBits, writableProtection};
 use emdf_format::EmdfPayloadConfig;
 use emdf_format::Optional;
 
@@ -207,4 +207,17 @@ pub fn is_codable(n: usize) -> bool
         16 => true,
         _ => false,
     }
+}
+
+// Whether both protections have a length that has a code, and the first is not empty.
+pub fn writable_protection(primary: &[u8], secondary: &[u8]) -> bool
+    ensures { λ r. ⌜ r ≡ writableProtection (now (primary .entry)) (now (secondary .entry)) ⌝ }
+{
+    if primary.len() == 0 {
+        return false;
+    }
+    if !is_codable(primary.len()) {
+        return false;
+    }
+    is_codable(secondary.len())
 }

@@ -1,38 +1,29 @@
 -- The blank carrier: its bits in the order of writing, and what the call answers. Assumes nothing.
 use mathlib.Core.Path.{_≡_, refl, sym, ap, _∙_, subst}
-use mathlib.Core.Bool.{Bool, true, false}
+use mathlib.Core.Bool.{true, false}
 use mathlib.Core.List.{List, [], _∷_, _++_, append-nil}
 use Prim.Native.Nat.{ℕ, zero, suc, _+_, _-_, _*_, _^_, _<_, _≤_}
 use native.Mathlib.Omega.{arith}
 use lib.ListN.{length, take, drop, take-append-drop}
 use lib.Seq.{sets, length-take-le, drop-length}
-use lib.Dec.{T, ltb, eqb→eq, lit<}
+use lib.Dec.{T, eqb→eq, lit<}
 use borrow.Author.Tests.{lt-ltb, le-leb, lt-leb}
-use Rattle.openjoc_bitio.specs.Choice.{if_then_else_}
 use Rattle.openjoc_bitio.specs.Bits.{numberBits}
 use Rattle.openjoc_bitio.proofs.Bits.{length-number}
 use Rattle.emdf_format.specs.declared.EditError.the-variants.{NotWritable, DestinationTooShort}
 use Rattle.emdf_format.specs.declared.EditAnswer.{EditAnswer}
 use Rattle.emdf_format.specs.declared.EditAnswer.the-variants.{Written, Refused}
-use Rattle.emdf_format.specs.Syntax.{_⨟_, groups, escape, extendedField, octetBits}
-use Rattle.emdf_format.specs.Contents.{Contents, _&_, protectionLength, protectionCode, codable, writable, writablePayloads, extensionBits, declared, payloadsBits, protectionBits, containerBits, carrierBits, carrier}
+use Rattle.emdf_format.specs.Syntax.{_⨟_, extendedField, octetBits}
+use Rattle.emdf_format.specs.Contents.{Contents, _&_, protectionLength, protectionCode, codable, writable, writablePayloads, declared, payloadsBits, protectionBits, containerBits, carrierBits, carrier}
 use Rattle.emdf_format.specs.Edits.{Bytes, carrierLength, inRoom, stepAnswer, written, blank}
 use Rattle.emdf_format.proofs.Standing.{length-then, both}
 use Rattle.emdf_format.proofs.Bytes.{declared-is}
 use Rattle.emdf_format.proofs.Splice.{⨟-assoc, written-bytes}
-use Rattle.emdf_contents.proofs.Asked.{groups-few}
-use Rattle.emdf_edit.specs.Fields.{blankContents, writableProtection, headerBits}
+use Rattle.emdf_contents.specs.Parts.{writableProtection}
+use Rattle.emdf_edit.specs.Fields.{blankContents, syncBits, headerBits}
 use Rattle.emdf_edit.proofs.Putting.{length-header}
 
 -- ---- sizes
-
-pub extension-few : (key : ℕ) → key < 2 ^ 64 → extensionBits 3 key ≤ 256
-unfolding extensionBits
-extension-few key h = go (ltb key (escape 3))
-  where
-    go : (t : Bool) → (if t then 0 else (3 + 1) * groups 3 (key - escape 3)) ≤ 256
-    go true = omega arith
-    go false = omega (arith, groups-few 3 (key - escape 3) (lit< tt) (omega arith))
 
 protection-short : (c : ℕ) → protectionLength c ≤ 16
 unfolding protectionLength
@@ -62,7 +53,7 @@ module _ (key : ℕ) (a b : List ℕ) where
   length-blank = simp (length-then, length-number) (omega arith)
 
   blank-parts : carrierBits c ≡ headerBits (declared c) key ⨟ numberBits 5 0 ⨟ protectionBits a b ⨟ numberBits (8 * declared c - length (containerBits c)) 0
-  unfolding carrierBits containerBits payloadsBits headerBits
+  unfolding carrierBits containerBits payloadsBits headerBits syncBits
   blank-parts = simp ⨟-assoc
 
   module _ (size : ℕ) (e : size ≡ declared c) where

@@ -20,8 +20,9 @@ use Rattle.emdf_format.proofs.Payloads.{length-octets}
 use Rattle.emdf_format.proofs.Variable.{before-fuel}
 use Rattle.emdf_writer.specs.Writing.{bitRun, numberPut, bitsCopied}
 use Rattle.emdf_writer.proofs.Stored.{sets-append, number-split}
+use Rattle.emdf_writer.proofs.Run.{length-run}
 use Rattle.emdf_writer.proofs.Fitting.{number-in, run-in}
-use Rattle.emdf_edit.specs.Fields.{Room, Put, group, variableGroups, headerBits}
+use Rattle.emdf_edit.specs.Fields.{Room, Put, group, variableGroups, syncBits, headerBits}
 
 -- ---- room
 
@@ -32,11 +33,29 @@ fits out end h l = simp (lt-ltb (length out) (2 ^ 61) l) (le-leb end (length out
 pub number-fits : (out : List ℕ) (at w v : ℕ) → w ≤ 64 → Room out at (numberBits w v) → numberPut out at w v ≡ sets (octetBits out) at (numberBits w v)
 number-fits out at w v h r = sym (number-in out at w v h (fits out (at + w) (omega (arith, length-number w v, r .0)) (r .1)))
 
+-- room in a buffer of n bytes
+abbrev RoomOf : ℕ → ℕ → List ℕ → Type 0
+RoomOf n at bs = (at + length bs ≤ n * 8) × (n < 2 ^ 61)
+
+pub room-same : {xs ys : List ℕ} (at : ℕ) {n : ℕ} → xs ≡ ys → RoomOf n at xs → RoomOf n at ys
+room-same at e r = rw (← e) r
+
+-- where some bits and then others fit, the first do, and the others after them
+pub room-first : (xs ys : List ℕ) (at : ℕ) {n : ℕ} → RoomOf n at (xs ⨟ ys) → RoomOf n at xs
+room-first xs ys at r = (omega (arith, r .0, length-then xs ys), r .1)
+
+pub room-next : (out mid xs ys : List ℕ) (at : ℕ) {p : ℕ} → Room out at (xs ⨟ ys) → Put out at xs mid p → length mid ≡ length out → Room mid p ys
+room-next out mid xs ys at r a e = (omega (arith, r .0, a .0, e, length-then xs ys), rw e (r .1))
+
 -- some bits and then others
 pub then-put : (out mid end xs ys : List ℕ) (at : ℕ) {p q : ℕ} → Put out at xs mid p → Put mid p ys end q → Put out at (xs ⨟ ys) end q
 unfolding _⨟_
 then-put out mid end xs ys at {p} {q} a b =
     (omega (arith, a .0, b .0, length-append xs ys), b .1 ∙ rw (a .1, a .0) (sym (sets-append (octetBits out) at xs ys)))
+
+-- no bits
+pub none-put : (out : List ℕ) (at : ℕ) → Put out at [] out at
+none-put out at = (omega arith, refl)
 
 -- ---- groups
 
@@ -104,17 +123,18 @@ module _ (w v p : ℕ) (e : p ≡ 2 ^ w) where
   unfolding extendedField escape
   extended-long h = let l : 2 ^ w - 1 ≤ v = rw e at h in rw (e, le-ltb v (2 ^ w - 1) l, groups-field)
 
--- ---- octets
+-- ---- bits of a slice, and all its octets
+
+pub run-fits : (out : List ℕ) (at : ℕ) (s : List ℕ) (from n : ℕ) → Room out at (bitRun s from n) → from + n ≤ length s * 8 → length s < 2 ^ 61
+    → bitsCopied out at s from n ≡ sets (octetBits out) at (bitRun s from n)
+run-fits out at s from n r h l = sym (run-in out at s from n (fits s (from + n) h l) (fits out (at + n) (omega (arith, length-run s from n h, r .0)) (r .1)))
 
 run-all : (s : List ℕ) → bitRun s 0 (length s * 8) ≡ octetBits s
 unfolding bitRun
 run-all s = let e : length s * 8 ≡ length (octetBits s) = omega (arith, length-octets s) in rw e (take-length (octetBits s))
 
 pub octets-fit : (out : List ℕ) (at : ℕ) (s : List ℕ) → Room out at (octetBits s) → bitsCopied out at s 0 (length s * 8) ≡ sets (octetBits out) at (octetBits s)
-octets-fit out at s r =
-    let l = length-octets s in
-    sym (run-in out at s 0 (length s * 8) (fits s (0 + length s * 8) (omega arith) (omega (arith, l, r .0, r .1))) (fits out (at + length s * 8) (omega (arith, l, r .0)) (r .1)))
-    ∙ rw (run-all s)
+octets-fit out at s r = run-fits out at s 0 (length s * 8) (rw (run-all s) r) (omega arith) (omega (arith, length-octets s, r .0, r .1)) ∙ rw (run-all s)
 
 -- ---- the parts of a carrier
 
@@ -123,5 +143,5 @@ unfolding protectionBits
 length-protection a b = simp (length-then, length-number) (omega arith)
 
 pub length-header : (n key : ℕ) → length (headerBits n key) ≡ 34 + length (extendedField 3 key)
-unfolding headerBits
+unfolding headerBits syncBits
 length-header n key = simp (length-then, length-number) (omega arith)

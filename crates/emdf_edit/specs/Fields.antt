@@ -1,14 +1,14 @@
 -- Fields put one after another into a buffer. Assumes nothing.
 use mathlib.Core.Path.{_≡_}
-use mathlib.Core.Bool.{Bool, not}
 use mathlib.Core.List.{List, [], _∷_}
-use Prim.Native.Nat.{ℕ, _+_, _*_, _/_, _%_, _^_, _<_, _≤_}
+use Prim.Native.Nat.{ℕ, _+_, _-_, _*_, _/_, _%_, _^_, _<_, _≤_}
 use lib.ListN.{length}
 use lib.Seq.{sets}
-use lib.Dec.{eqb}
 use Rattle.openjoc_bitio.specs.Bits.{numberBits}
-use Rattle.emdf_format.specs.Syntax.{_⨟_, groupsBefore, extendedField, octetBits}
-use Rattle.emdf_format.specs.Contents.{Contents, _&_, codable}
+use Rattle.emdf_format.specs.Syntax.{_⨟_, groupsBefore, variableField, extendedField, octetBits, flaggedField, presentField}
+use Rattle.emdf_format.specs.Contents.{Contents, sampleOffsetBits}
+use Rattle.emdf_format.specs.declared.EmdfPayloadConfig.{EmdfPayloadConfig}
+use Rattle.emdf_plan.specs.declared.Cut.{Cut}
 
 -- bits from position at on fit into out, and its positions can be counted
 abbrev pub Room : List ℕ → ℕ → List ℕ → Type 0
@@ -26,15 +26,49 @@ group w low more = numberBits w low ⨟ (more ∷ [])
 unfoldable pub variableGroups : ℕ → ℕ → ℕ → List ℕ
 variableGroups w v more = groupsBefore (v / 2 ^ w) w (v / 2 ^ w) ⨟ group w (v % 2 ^ w) more
 
+-- ---- settings: those before the codec flag, and those after it
+
+unfoldable pub timingBits : EmdfPayloadConfig → List ℕ
+timingBits t =
+    flaggedField sampleOffsetBits (t .«sample_offset»)
+    ⨟ flaggedField (variableField 11) (t .duration)
+    ⨟ flaggedField (variableField 2) (t .«group_id»)
+
+unfoldable pub controlsBits : EmdfPayloadConfig → List ℕ
+controlsBits t =
+    numberBits 1 (t .«discard_unknown_payload»)
+    ⨟ presentField (numberBits 1) (t .«payload_frame_aligned»)
+    ⨟ presentField (numberBits 1) (t .«create_duplicate»)
+    ⨟ presentField (numberBits 1) (t .«remove_duplicate»)
+    ⨟ presentField (numberBits 5) (t .priority)
+    ⨟ presentField (numberBits 2) (t .«processing_allowed»)
+
+-- ---- carriers
+
+-- the sync word, and the length that the container declares
+unfoldable pub syncBits : ℕ → List ℕ
+syncBits n = numberBits 16 0x5838 ⨟ numberBits 16 n
+
+-- the bits of a container after new ones came in at a cut
+unfoldable pub keptBits : Cut → List ℕ → ℕ
+keptBits cut new = (cut .from .0 - 32) + length new + (cut .end .0 - cut .to .0)
+
+-- a cut that lies in the container of s, and the length that the container declares after it, in 16 bits
+pub record Within (s : List ℕ) (cut : Cut) (new : List ℕ) : Type 0 where
+  pub starts : 32 ≤ cut .from .0
+  pub ordered : cut .from .0 ≤ cut .to .0
+  pub ends : cut .to .0 ≤ cut .end .0
+  pub there : cut .end .0 ≤ length s * 8
+  pub short : length s < 2 ^ 61
+  pub small : cut .size .0 < 65536
+  pub covers : keptBits cut new ≤ 8 * cut .size .0
+  pub close : 8 * cut .size .0 < keptBits cut new + 8
+
 -- ---- the blank carrier
 
 abbrev pub blankContents : ℕ → List ℕ → List ℕ → Contents
 blankContents key a b = record { key-id = key; payloads = []; primary = a; secondary = b }
 
--- protections that have a code
-unfoldable pub writableProtection : List ℕ → List ℕ → Bool
-writableProtection a b = not (eqb (length a) 0) & codable (length a) & codable (length b)
-
 -- the sync word, the declared length, version 0, key_id
 unfoldable pub headerBits : ℕ → ℕ → List ℕ
-headerBits n key = numberBits 16 0x5838 ⨟ numberBits 16 n ⨟ numberBits 2 0 ⨟ extendedField 3 key
+headerBits n key = syncBits n ⨟ numberBits 2 0 ⨟ extendedField 3 key

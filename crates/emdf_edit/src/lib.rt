@@ -3,12 +3,20 @@ ghost use mathlib.Core.Path.{_≡_};
 ghost use Prim.Native.Nat.{_+_, _*_, _^_, _<_, _≤_};
 ghost use lib.ListN.{length};
 ghost use Rattle.openjoc_bitio.specs.Bits.{numberBits};
-ghost use Rattle.emdf_format.specs.Syntax.{extendedField, octetBits};
-ghost use Rattle.emdf_format.specs.Contents.{protectionBits, carrierBits, declared};
-ghost use Rattle.emdf_format.specs.Edits.{blank};
-ghost use Rattle.emdf_edit.specs.Fields.{Room, Put, group, variableGroups, blankContents, writableProtection, headerBits};
+ghost use Rattle.emdf_format.specs.Syntax.{_⨟_, variableField, extendedField, octetBits, flaggedField, presentField};
+ghost use Rattle.emdf_format.specs.Contents.{Payload, sampleOffsetBits, codecDataBits, configBits, payloadBits, protectionBits, carrierBits, declared};
+ghost use Rattle.emdf_format.specs.Edits.{bodyEdit, settingsEdit, dropEdit, insertEdit, keyEdit, protectionEdit, edited, blank};
+ghost use Rattle.emdf_writer.specs.Writing.{bitRun};
+ghost use Rattle.emdf_plan.specs.Plan.{editOf, newBits, spliced};
+ghost use Rattle.emdf_edit.specs.Sequences.{Called};
+ghost use Rattle.emdf_edit.specs.Fields.{Room, Put, group, variableGroups, timingBits, controlsBits, syncBits, Within, blankContents, headerBits};
 use emdf_format::EditAnswer;
 use emdf_format::EditError;
+use emdf_format::EmdfPayloadConfig;
+use emdf_format::Optional;
+use emdf_plan::Cut;
+use emdf_plan::Plan;
+use emdf_plan::Request;
 use openjoc_bitio::ByteCount;
 
 // The width low bits of v; the position past them, as with the others.
@@ -72,6 +80,118 @@ fn put_octets(out: &mut [u8], at: usize, s: &[u8]) -> usize
     at + n
 }
 
+// The sample offset: a flag and, where it is there, 11 bits and a reserved one.
+fn put_sample_offset(out: &mut [u8], at: usize, o: Optional) -> usize
+    requires { ⌜ Room (now out) at (flaggedField sampleOffsetBits o) ⌝ }
+    ensures { λ r. ⌜ Put (now (out .entry)) at (flaggedField sampleOffsetBits o) (now (out .exit)) r ⌝ }
+{
+    match o {
+        Optional::Absent => put_field(out, at, 1, 0),
+        Optional::Present(v) => {
+            let flag = put_field(out, at, 1, 1);
+            let value = put_field(out, flag, 11, v);
+            put_field(out, value, 1, 0)
+        }
+    }
+}
+
+// A flag and, where the setting is there, its variable field.
+fn put_flagged(out: &mut [u8], at: usize, width: usize, o: Optional) -> usize
+    requires { ⌜ (0 < width) × (width < 64) × Room (now out) at (flaggedField (variableField width) o) ⌝ }
+    ensures { λ r. ⌜ Put (now (out .entry)) at (flaggedField (variableField width) o) (now (out .exit)) r ⌝ }
+{
+    match o {
+        Optional::Absent => put_field(out, at, 1, 0),
+        Optional::Present(v) => {
+            let flag = put_field(out, at, 1, 1);
+            put_variable(out, flag, width, v, 0)
+        }
+    }
+}
+
+// The codec flag and, where it is set, the reserved octet.
+fn put_codec_data(out: &mut [u8], at: usize, flag: u64) -> usize
+    requires { ⌜ Room (now out) at (codecDataBits flag) ⌝ }
+    ensures { λ r. ⌜ Put (now (out .entry)) at (codecDataBits flag) (now (out .exit)) r ⌝ }
+{
+    if flag == 0 {
+        return put_field(out, at, 1, 0);
+    }
+    let next = put_field(out, at, 1, 1);
+    put_field(out, next, 8, 0)
+}
+
+// The width low bits of a setting, where it is there.
+fn put_present(out: &mut [u8], at: usize, width: usize, o: Optional) -> usize
+    requires { ⌜ (width ≤ 64) × Room (now out) at (presentField (numberBits width) o) ⌝ }
+    ensures { λ r. ⌜ Put (now (out .entry)) at (presentField (numberBits width) o) (now (out .exit)) r ⌝ }
+{
+    match o {
+        Optional::Absent => at,
+        Optional::Present(v) => put_field(out, at, width, v),
+    }
+}
+
+// The settings before the codec flag.
+fn put_timing(out: &mut [u8], at: usize, t: EmdfPayloadConfig) -> usize
+    requires { ⌜ Room (now out) at (timingBits t) ⌝ }
+    ensures { λ r. ⌜ Put (now (out .entry)) at (timingBits t) (now (out .exit)) r ⌝ }
+{
+    let offset = t.sample_offset;
+    let duration = t.duration;
+    let group = t.group_id;
+    let first = put_sample_offset(out, at, offset);
+    let second = put_flagged(out, first, 11, duration);
+    put_flagged(out, second, 2, group)
+}
+
+// The settings after the codec flag.
+fn put_controls(out: &mut [u8], at: usize, t: EmdfPayloadConfig) -> usize
+    requires { ⌜ Room (now out) at (controlsBits t) ⌝ }
+    ensures { λ r. ⌜ Put (now (out .entry)) at (controlsBits t) (now (out .exit)) r ⌝ }
+{
+    let aligned = t.payload_frame_aligned;
+    let create = t.create_duplicate;
+    let remove = t.remove_duplicate;
+    let priority = t.priority;
+    let processing = t.processing_allowed;
+    let first = put_field(out, at, 1, t.discard_unknown_payload);
+    let second = put_present(out, first, 1, aligned);
+    let third = put_present(out, second, 1, create);
+    let fourth = put_present(out, third, 1, remove);
+    let fifth = put_present(out, fourth, 5, priority);
+    put_present(out, fifth, 2, processing)
+}
+
+// The ten settings.
+fn put_config(out: &mut [u8], at: usize, t: EmdfPayloadConfig) -> usize
+    requires { ⌜ Room (now out) at (configBits t) ⌝ }
+    ensures { λ r. ⌜ Put (now (out .entry)) at (configBits t) (now (out .exit)) r ⌝ }
+{
+    let timing = put_timing(out, at, t);
+    let codec = put_codec_data(out, timing, t.codec_data_present);
+    put_controls(out, codec, t)
+}
+
+// The size of a body, and its octets.
+fn put_body(out: &mut [u8], at: usize, body: &[u8]) -> usize
+    requires { ⌜ Room (now out) at (variableField 8 (length (now body)) ⨟ octetBits (now body)) ⌝ }
+    ensures { λ r. ⌜ Put (now (out .entry)) at (variableField 8 (length (now (body .entry))) ⨟ octetBits (now (body .entry))) (now (out .exit)) r ⌝ }
+{
+    let size = put_variable(out, at, 8, body.len() as u64, 0);
+    put_octets(out, size, body)
+}
+
+// A payload.
+fn put_payload(out: &mut [u8], at: usize, id: u64, config: EmdfPayloadConfig, body: &[u8]) -> usize
+    requires { ⌜ Room (now out) at (payloadBits (record { id = id; config = config; body = now body })) ⌝ }
+    ensures { λ r. ⌜ Put (now (out .entry)) at (payloadBits (record { id = id; config = config; body = now (body .entry) })) (now (out .exit)) r ⌝ }
+{
+    let settings = put_extended(out, at, 5, id);
+    let size = put_config(out, settings, config);
+    put_body(out, size, body)
+}
+
 // The codes of two protections and their octets.
 fn put_protection(out: &mut [u8], at: usize, primary: &[u8], secondary: &[u8]) -> usize
     requires { ⌜ Room (now out) at (protectionBits (now primary) (now secondary)) ⌝ }
@@ -88,28 +208,32 @@ fn put_protection(out: &mut [u8], at: usize, primary: &[u8], secondary: &[u8]) -
     put_octets(out, next, secondary)
 }
 
+// n bits of s, from bit from on.
+fn put_run(out: &mut [u8], at: usize, s: &[u8], from: usize, n: usize) -> usize
+    requires { ⌜ Room (now out) at (bitRun (now s) from n) × (from + n ≤ length (now s) * 8) × (length (now s) < 2 ^ 61) ⌝ }
+    ensures { λ r. ⌜ Put (now (out .entry)) at (bitRun (now (s .entry)) from n) (now (out .exit)) r ⌝ }
+{
+    emdf_writer::copy_bits(out, at, s, from, n);
+    at + n
+}
+
+// The sync word, and the length that the container declares.
+fn put_sync(out: &mut [u8], size: usize) -> usize
+    requires { ⌜ Room (now out) 0 (syncBits size) ⌝ }
+    ensures { λ r. ⌜ Put (now (out .entry)) 0 (syncBits size) (now (out .exit)) r ⌝ }
+{
+    let word = put_field(out, 0, 16, emdf_format::SYNCWORD as u64);
+    put_field(out, word, 16, size as u64)
+}
+
 // What stands before the payloads.
 fn put_header(out: &mut [u8], declared: usize, key: u64) -> usize
     requires { ⌜ Room (now out) 0 (headerBits declared key) ⌝ }
     ensures { λ r. ⌜ Put (now (out .entry)) 0 (headerBits declared key) (now (out .exit)) r ⌝ }
 {
-    let word = put_field(out, 0, 16, emdf_format::SYNCWORD as u64);
-    let length = put_field(out, word, 16, declared as u64);
-    let version = put_field(out, length, 2, 0);
+    let sync = put_sync(out, declared);
+    let version = put_field(out, sync, 2, 0);
     put_extended(out, version, 3, key)
-}
-
-// Whether both protections have a code.
-fn writable_protection(primary: &[u8], secondary: &[u8]) -> bool
-    ensures { λ r. ⌜ r ≡ writableProtection (now (primary .entry)) (now (secondary .entry)) ⌝ }
-{
-    if primary.len() == 0 {
-        return false;
-    }
-    if !emdf_contents::is_codable(primary.len()) {
-        return false;
-    }
-    emdf_contents::is_codable(secondary.len())
 }
 
 // The declared length of a blank carrier.
@@ -141,7 +265,7 @@ pub fn blank_carrier(
 ) -> EditAnswer
     ensures { λ r. ⌜ (r ≡ blank key (now (primary .entry)) (now (secondary .entry)) (now (destination .entry)) .answer) × (now (destination .exit) ≡ blank key (now (primary .entry)) (now (secondary .entry)) (now (destination .entry)) .destination) ⌝ }
 {
-    if !writable_protection(primary, secondary) {
+    if !emdf_contents::writable_protection(primary, secondary) {
         return EditAnswer::Refused(EditError::NotWritable);
     }
     let size = blank_declared(key, primary, secondary);
@@ -153,4 +277,146 @@ pub fn blank_carrier(
     }
     put_blank(&mut destination[..n], size, key, primary, secondary);
     EditAnswer::Written(ByteCount(n))
+}
+
+// What a request brings.
+fn put_new(out: &mut [u8], at: usize, request: Request, octets: &[u8], secondary: &[u8]) -> usize
+    requires { ⌜ Room (now out) at (newBits (editOf request (now octets) (now secondary))) ⌝ }
+    ensures { λ r. ⌜ Put (now (out .entry)) at (newBits (editOf request (now (octets .entry)) (now (secondary .entry)))) (now (out .exit)) r ⌝ }
+{
+    match request {
+        Request::Body(_) => put_body(out, at, octets),
+        Request::Settings(_, config) => put_config(out, at, config),
+        Request::Drop(_) => at,
+        Request::Insert(_, id, config) => put_payload(out, at, id, config, octets),
+        Request::Key(id) => put_extended(out, at, 3, id),
+        Request::Protection => put_protection(out, at, octets, secondary),
+    }
+}
+
+// The edited carrier, over bytes of its own length: what the request brings stands in the source's bits, instead of those cut
+// out.
+fn put_splice(
+    out: &mut [u8],
+    source: &[u8],
+    cut: Cut,
+    request: Request,
+    octets: &[u8],
+    secondary: &[u8],
+) -> usize
+    requires { ⌜ Within (now source) cut (newBits (editOf request (now octets) (now secondary))) × (length (now out) ≡ 4 + cut .size .0) ⌝ }
+    ensures { λ r. ⌜ Put (now (out .entry)) 0 (spliced (now (source .entry)) cut (newBits (editOf request (now (octets .entry)) (now (secondary .entry))))) (now (out .exit)) r ⌝ }
+{
+    let from = cut.from;
+    let to = cut.to;
+    let end = cut.end;
+    let size = cut.size;
+    let sync = put_sync(out, size.0);
+    let before = put_run(out, sync, source, 32, from.0 - 32);
+    let new = put_new(out, before, request, octets, secondary);
+    let after = put_run(out, new, source, to.0, end.0 - to.0);
+    put_field(out, after, (4 + size.0) * 8 - after, 0)
+}
+
+// Each of the six edits: all questions before the first byte is stored.
+fn apply(
+    source: &[u8],
+    request: Request,
+    octets: &[u8],
+    secondary: &[u8],
+    destination: &mut [u8],
+) -> EditAnswer
+    ensures { λ r. ⌜ Called (editOf request (now (octets .entry)) (now (secondary .entry))) (now (source .entry)) (now (destination .entry)) r (now (destination .exit)) ⌝ }
+{
+    let plan = emdf_plan::plan_edit(source, request, octets, secondary, destination.len());
+    match plan {
+        Plan::Splice(cut) => {
+            let size = cut.size;
+            let n = 4 + size.0;
+            put_splice(
+                &mut destination[..n],
+                source,
+                cut,
+                request,
+                octets,
+                secondary,
+            );
+            EditAnswer::Written(ByteCount(n))
+        }
+        Plan::Refused(why) => EditAnswer::Refused(why),
+    }
+}
+
+// Another body for the payload at place.
+pub fn replace_body(source: &[u8], place: usize, body: &[u8], destination: &mut [u8]) -> EditAnswer
+    ensures { λ r. ⌜ (r ≡ edited (bodyEdit place (now (body .entry))) (now (source .entry)) (now (destination .entry)) .answer) × (now (destination .exit) ≡ edited (bodyEdit place (now (body .entry))) (now (source .entry)) (now (destination .entry)) .destination) ⌝ }
+{
+    apply(source, Request::Body(place), body, &body[..0], destination)
+}
+
+// Other settings, all ten, for the payload at place.
+pub fn replace_settings(
+    source: &[u8],
+    place: usize,
+    config: EmdfPayloadConfig,
+    destination: &mut [u8],
+) -> EditAnswer
+    ensures { λ r. ⌜ (r ≡ edited (settingsEdit place config) (now (source .entry)) (now (destination .entry)) .answer) × (now (destination .exit) ≡ edited (settingsEdit place config) (now (source .entry)) (now (destination .entry)) .destination) ⌝ }
+{
+    let none = &source[..0];
+    apply(
+        source,
+        Request::Settings(place, config),
+        none,
+        none,
+        destination,
+    )
+}
+
+// The carrier without the payload at place.
+pub fn drop_payload(source: &[u8], place: usize, destination: &mut [u8]) -> EditAnswer
+    ensures { λ r. ⌜ (r ≡ edited (dropEdit place) (now (source .entry)) (now (destination .entry)) .answer) × (now (destination .exit) ≡ edited (dropEdit place) (now (source .entry)) (now (destination .entry)) .destination) ⌝ }
+{
+    let none = &source[..0];
+    apply(source, Request::Drop(place), none, none, destination)
+}
+
+// A payload more, before the one at place; or after the last one, where place is their number.
+pub fn insert_payload(
+    source: &[u8],
+    place: usize,
+    id: u64,
+    config: EmdfPayloadConfig,
+    body: &[u8],
+    destination: &mut [u8],
+) -> EditAnswer
+    ensures { λ r. ⌜ (r ≡ edited (insertEdit place id config (now (body .entry))) (now (source .entry)) (now (destination .entry)) .answer) × (now (destination .exit) ≡ edited (insertEdit place id config (now (body .entry))) (now (source .entry)) (now (destination .entry)) .destination) ⌝ }
+{
+    apply(
+        source,
+        Request::Insert(place, id, config),
+        body,
+        &body[..0],
+        destination,
+    )
+}
+
+// Another key id.
+pub fn replace_key(source: &[u8], key: u64, destination: &mut [u8]) -> EditAnswer
+    ensures { λ r. ⌜ (r ≡ edited (keyEdit key) (now (source .entry)) (now (destination .entry)) .answer) × (now (destination .exit) ≡ edited (keyEdit key) (now (source .entry)) (now (destination .entry)) .destination) ⌝ }
+{
+    let none = &source[..0];
+    apply(source, Request::Key(key), none, none, destination)
+}
+
+// Other protections.
+pub fn replace_protection(
+    source: &[u8],
+    primary: &[u8],
+    secondary: &[u8],
+    destination: &mut [u8],
+) -> EditAnswer
+    ensures { λ r. ⌜ (r ≡ edited (protectionEdit (now (primary .entry)) (now (secondary .entry))) (now (source .entry)) (now (destination .entry)) .answer) × (now (destination .exit) ≡ edited (protectionEdit (now (primary .entry)) (now (secondary .entry))) (now (source .entry)) (now (destination .entry)) .destination) ⌝ }
+{
+    apply(source, Request::Protection, primary, secondary, destination)
 }

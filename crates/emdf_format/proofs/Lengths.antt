@@ -51,7 +51,7 @@ length-sample : (v : ℕ) → length (sampleOffsetBits v) ≡ 12
 unfolding sampleOffsetBits
 length-sample v = rw (length-then, length-number)
 
-length-config : (t : EmdfPayloadConfig) → length (configBits t) ≡ neededConfig t
+pub length-config : (t : EmdfPayloadConfig) → length (configBits t) ≡ neededConfig t
 unfolding configBits neededConfig
 length-config t =
     simp length-then (omega (
@@ -68,12 +68,12 @@ length-config t =
       length-present 2 (t .«processing_allowed»),
     ))
 
-length-payload : (x : Payload) → length (payloadBits x) ≡ neededPayload x
+pub length-payload : (x : Payload) → length (payloadBits x) ≡ neededPayload x
 unfolding payloadBits neededPayload
 length-payload x =
     simp length-then (omega (arith, length-extended 5 (x .id), length-config (x .config), length-field 8 (length (x .body)), length-octets (x .body)))
 
-length-payloads : (xs : List Payload) → length (payloadsBits xs) ≡ neededPayloads xs + 5
+pub length-payloads : (xs : List Payload) → length (payloadsBits xs) ≡ neededPayloads xs + 5
 unfolding payloadsBits neededPayloads
 length-payloads [] = length-number 5 0
 length-payloads (x ∷ xs) = simp length-then (omega (arith, length-payload x, length-payloads xs))

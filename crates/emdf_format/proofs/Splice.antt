@@ -30,7 +30,7 @@ pub ⨟-assoc : (xs ys zs : List ℕ) → (xs ⨟ ys) ⨟ zs ≡ xs ⨟ ys ⨟ z
 unfolding _⨟_
 ⨟-assoc xs ys zs = append-assoc xs ys zs
 
-⨟-nil : (xs : List ℕ) → xs ⨟ [] ≡ xs
+pub ⨟-nil : (xs : List ℕ) → xs ⨟ [] ≡ xs
 unfolding _⨟_
 ⨟-nil xs = append-nil xs
 
@@ -53,7 +53,7 @@ unfoldable pub bitsFrom : Contents → ℕ → List ℕ
 bitsFrom c k = listBits (drop k (c .payloads)) ⨟ numberBits 5 0 ⨟ protectionBits (c .primary) (c .secondary)
 
 -- other payloads between place k and place j
-between : (c : Contents) (k j : ℕ) (ms : List Payload) → containerBits (withPayloads c (take k (c .payloads) ++ (ms ++ drop j (c .payloads)))) ≡ bitsBefore c k ⨟ listBits ms ⨟ bitsFrom c j
+pub between : (c : Contents) (k j : ℕ) (ms : List Payload) → containerBits (withPayloads c (take k (c .payloads) ++ (ms ++ drop j (c .payloads)))) ≡ bitsBefore c k ⨟ listBits ms ⨟ bitsFrom c j
 unfolding containerBits withPayloads bitsBefore bitsFrom
 between c k j ms =
     let xs = take k (c .payloads) in
@@ -63,12 +63,12 @@ between c k j ms =
     simp (e, ⨟-assoc)
 
 -- the payload at place k, and what a change of it leaves
-record Placed (k : ℕ) (xs : List Payload) (x : Payload) : Type 0 where
+pub record Placed (k : ℕ) (xs : List Payload) (x : Payload) : Type 0 where
   is : xs ≡ take k xs ++ (x ∷ drop (suc k) xs)
   body : (bs : List ℕ) → withBody k bs xs ≡ take k xs ++ (record { id = x .id; config = x .config; body = bs } ∷ drop (suc k) xs)
   config : (t : EmdfPayloadConfig) → withConfig k t xs ≡ take k xs ++ (record { id = x .id; config = t; body = x .body } ∷ drop (suc k) xs)
 
-placed : (k : ℕ) (xs : List Payload) {x : Payload} → getElem? xs k ≡ some x → Placed k xs x
+pub placed : (k : ℕ) (xs : List Payload) {x : Payload} → getElem? xs k ≡ some x → Placed k xs x
 unfolding withBody withConfig
 placed k [] h = absurd (let w : _≡_ {A = ℕ} 0 1 = cc in omega arith)
 placed zero (y ∷ xs) {x} h = let e : y ≡ x = cc in rw e (record { is = refl; body = λ bs. refl; config = λ t. refl })
@@ -86,7 +86,7 @@ pub record Splice (c d : Contents) : Type 0 where
   pub was : containerBits c ≡ before ⨟ old ⨟ after
   pub is : containerBits d ≡ before ⨟ new ⨟ after
 
-one-bits : (x : Payload) → listBits (x ∷ []) ≡ payloadBits x
+pub one-bits : (x : Payload) → listBits (x ∷ []) ≡ payloadBits x
 unfolding listBits _⨟_
 one-bits x = append-nil (payloadBits x)
 
@@ -99,14 +99,14 @@ module _ (c : Contents) (k : ℕ) where
   ps = c .payloads
 
   -- one payload between place k and the next
-  with-one : (x : Payload) {xs : List Payload} → xs ≡ take k ps ++ (x ∷ drop (suc k) ps) → containerBits (withPayloads c xs) ≡ bitsBefore c k ⨟ payloadBits x ⨟ bitsFrom c (suc k)
+  pub with-one : (x : Payload) {xs : List Payload} → xs ≡ take k ps ++ (x ∷ drop (suc k) ps) → containerBits (withPayloads c xs) ≡ bitsBefore c k ⨟ payloadBits x ⨟ bitsFrom c (suc k)
   with-one x e = ap (λ (l : List Payload). containerBits (withPayloads c l)) e ∙ between c k (suc k) (x ∷ []) ∙ ap (λ (l : List ℕ). bitsBefore c k ⨟ l ⨟ bitsFrom c (suc k)) (one-bits x)
 
   module _ {x : Payload} (at : getElem? ps k ≡ some x) where
-    here : containerBits c ≡ bitsBefore c k ⨟ payloadBits x ⨟ bitsFrom c (suc k)
+    pub here : containerBits c ≡ bitsBefore c k ⨟ payloadBits x ⨟ bitsFrom c (suc k)
     here = sym (same-payloads c) ∙ with-one x (placed k ps at .is)
 
-    pub splice-body : (bs : List ℕ) → Splice c (change (bodyEdit k bs) c)
+    unfoldable pub splice-body : (bs : List ℕ) → Splice c (change (bodyEdit k bs) c)
     unfolding change payloadBits
     splice-body bs = record {
       before = bitsBefore c k ⨟ extendedField 5 (x .id) ⨟ configBits (x .config);
@@ -117,7 +117,7 @@ module _ (c : Contents) (k : ℕ) where
       is = with-one _ (placed k ps at .body bs) ∙ simp ⨟-assoc;
     }
 
-    pub splice-settings : (t : EmdfPayloadConfig) → Splice c (change (settingsEdit k t) c)
+    unfoldable pub splice-settings : (t : EmdfPayloadConfig) → Splice c (change (settingsEdit k t) c)
     unfolding change payloadBits
     splice-settings t = record {
       before = bitsBefore c k ⨟ extendedField 5 (x .id);
@@ -128,15 +128,15 @@ module _ (c : Contents) (k : ℕ) where
       is = with-one _ (placed k ps at .config t) ∙ simp ⨟-assoc;
     }
 
-    pub splice-drop : Splice c (change (dropEdit k) c)
+    unfoldable pub splice-drop : Splice c (change (dropEdit k) c)
     unfolding change listBits _⨟_
     splice-drop = record { before = bitsBefore c k; old = payloadBits x; new = []; after = bitsFrom c (suc k); was = here; is = between c k (suc k) [] }
 
-  all-there : containerBits c ≡ bitsBefore c k ⨟ [] ⨟ bitsFrom c k
+  pub all-there : containerBits c ≡ bitsBefore c k ⨟ [] ⨟ bitsFrom c k
   unfolding listBits
   all-there = sym (same-payloads c) ∙ ap (λ (l : List Payload). containerBits (withPayloads c l)) (sym (take-append-drop k ps)) ∙ between c k k []
 
-  pub splice-insert : (i : ℕ) (t : EmdfPayloadConfig) (bs : List ℕ) → Splice c (change (insertEdit k i t bs) c)
+  unfoldable pub splice-insert : (i : ℕ) (t : EmdfPayloadConfig) (bs : List ℕ) → Splice c (change (insertEdit k i t bs) c)
   unfolding change
   splice-insert i t bs =
       let x : Payload = record { id = i; config = t; body = bs } in
@@ -149,7 +149,7 @@ module _ (c : Contents) (k : ℕ) where
         is = between c k k (x ∷ []) ∙ ap (λ (l : List ℕ). bitsBefore c k ⨟ l ⨟ bitsFrom c k) (one-bits x);
       }
 
-pub splice-key : (c : Contents) (i : ℕ) → Splice c (change (keyEdit i) c)
+unfoldable pub splice-key : (c : Contents) (i : ℕ) → Splice c (change (keyEdit i) c)
 unfolding change containerBits
 splice-key c i = record {
   before = numberBits 2 0;
@@ -160,7 +160,7 @@ splice-key c i = record {
   is = refl;
 }
 
-pub splice-protection : (c : Contents) (a b : List ℕ) → Splice c (change (protectionEdit a b) c)
+unfoldable pub splice-protection : (c : Contents) (a b : List ℕ) → Splice c (change (protectionEdit a b) c)
 unfolding change containerBits
 splice-protection c a b = record {
   before = numberBits 2 0 ⨟ extendedField 3 (c .key-id) ⨟ payloadsBits (c .payloads);

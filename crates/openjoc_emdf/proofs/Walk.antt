@@ -150,6 +150,7 @@ pub record Opened (s : List ℕ) (p : ParsedEmdf) (first : BitCursor) : Type 0 w
   pub is : reading s ≡ accepted (p .«bytes_consumed» .0) container
   pub parsed : parsedEmdf (p .«bytes_consumed» .0) container ≡ p
   pub there : p .«bytes_consumed» .0 ≤ length s
+  pub from : first ≡ firstPayload (p .«bytes_consumed» .0) s
   pub end : first .end ≡ p .«bytes_consumed» .0 * 8
   pub listed : Listed (take (p .«bytes_consumed» .0) s) first (container .found)
 
@@ -162,7 +163,7 @@ opened s {p} {first} h = go (reading s) refl h
         let a : parsedEmdf n c ≡ p = cc in
         let b : firstPayload n s ≡ first = cc in
         let f = read-first s n c r in
-        rw (← a, ← b) (record { container = c; is = r; parsed = refl; there = read-limit s n c r .0; end = f .1; listed = f .0 })
+        rw (← a, ← b) (record { container = c; is = r; parsed = refl; there = read-limit s n c r .0; from = refl; end = f .1; listed = f .0 })
     go (refusal why) r h = absurd (let w : _≡_ {A = ℕ} 0 1 = cc in omega arith)
 
 pub unopened : (s : List ℕ) {why : EmdfError} → openAnswer s (reading s) ≡ OpenAnswer.Refused why → reading s ≡ refusal why

@@ -1,13 +1,14 @@
 use borrow.Author.Needs.{needs}
 use Prim.Native.Nat.{_≤_}
 use native.Mathlib.Omega.{arith}
+use lib.Dec.{lit<}
 use Rattle.emdf_format.specs.Contents.{declared, neededBits, neededPayloads}
-use Rattle.emdf_edit.proofs.Blank.{extension-few}
+use Rattle.emdf_plan.proofs.Asking.{extension-few}
 use Rattle.emdf_edit.proofs.blank_declared.Statement.{statement}
 use Rattle.emdf_edit.proofs.blank_declared.Tie as tie
 
-few : (c : tie.After-key-bits) → c .key-bits .result ≤ 261
-few c = omega (arith, c .key-bits .ensures, extension-few (c .before .before .before .args .key) (omega arith))
+few : (c : tie.After-key-bits) → c .key-bits .result ≤ 773
+few c = omega (arith, c .key-bits .ensures, extension-few 3 (c .before .before .before .args .key) (lit< tt) (lit< tt) (omega arith))
 
 key-bits-requires : tie.Need-key-bits-requires
 key-bits-requires c κs = search needs

@@ -1,39 +1,28 @@
 use borrow.Author.Needs.{needs}
 use native.Mathlib.Omega.{arith}
-use Rattle.openjoc_bitio.proofs.Bits.{length-number}
-use Rattle.emdf_edit.specs.Fields.{headerBits}
-use Rattle.emdf_edit.proofs.Putting.{then-put, length-header}
+use Rattle.openjoc_bitio.specs.Bits.{numberBits}
+use Rattle.emdf_format.specs.Syntax.{_⨟_, extendedField}
+use Rattle.emdf_edit.specs.Fields.{Room, headerBits}
+use Rattle.emdf_edit.proofs.Putting.{room-first, room-next, then-put}
 use Rattle.emdf_edit.proofs.put_header.Statement.{statement}
 use Rattle.emdf_edit.proofs.put_header.Tie as tie
 
-cast-put-field : tie.Need-cast-put-field
-cast-put-field c = search needs
+-- the room left after the sync word and the length
+after-sync : (c : tie.After-put-sync) → Room (c .put-sync .last .0) (c .put-sync .result) (numberBits 2 0 ⨟ extendedField 3 (c .before .before .before .args .key))
+unfolding headerBits
+after-sync c = room-next _ _ _ _ _ (c .before .before .before .pre) (c .put-sync .ensures) (c .put-sync .kept .0)
+
+put-sync-requires : tie.Need-put-sync-requires
+unfolding headerBits
+put-sync-requires c κs = room-first _ _ _ (c .before .before .pre)
 
 put-field-requires : tie.Need-put-field-requires
-put-field-requires c κs =
-    let a = c .before .before .args in
-    omega (arith, length-number 16 22584, length-header (a .declared) (a .key))
-
-put-field-requires-2 : tie.Need-put-field-requires-2
-put-field-requires-2 c κs =
-    let a = c .before .before .before .before .before .before .args in
-    let d = c .before .before .before .put-field in
-    omega (arith, length-number 16 22584, length-number 16 (a .declared), d .ensures .0, d .kept .0, length-header (a .declared) (a .key))
-
-put-field-requires-3 : tie.Need-put-field-requires-3
-put-field-requires-3 c κs =
-    let a = c .before .before .before .before .before .before .before .before .before .before .args in
-    let d = c .before .before .before .before .before .before .before .put-field in
-    let e = c .before .before .before .put-field2 in
-    omega (arith, length-number 16 22584, length-number 16 (a .declared), length-number 2 0, d .ensures .0, d .kept .0, e .ensures .0, e .kept .0, length-header (a .declared) (a .key))
+put-field-requires c κs = (omega arith, room-first _ _ _ (after-sync (c .before .before .before)))
 
 put-extended-requires : tie.Need-put-extended-requires
 put-extended-requires c κs =
-    let a = c .before .before .before .before .before .before .before .before .before .before .before .before .before .before .args in
-    let d = c .before .before .before .before .before .before .before .before .before .before .before .put-field in
-    let e = c .before .before .before .before .before .before .before .put-field2 in
-    let f = c .before .before .before .put-field3 in
-    omega (arith, length-number 16 22584, length-number 16 (a .declared), length-number 2 0, d .ensures .0, d .kept .0, e .ensures .0, e .kept .0, f .ensures .0, f .kept .0, length-header (a .declared) (a .key))
+    let d = c .before .before .before in
+    (omega arith, omega arith, room-next _ _ _ _ _ (after-sync (d .before .before .before .before)) (d .put-field .ensures) (d .put-field .kept .0))
 
 same-length : tie.Need-same-length
 same-length c = search needs
@@ -41,17 +30,15 @@ same-length c = search needs
 returns : tie.Need-returns
 unfolding headerBits
 returns c =
-    then-put _ _ _ _ _ _ (c .before .before .before .before .before .before .before .before .before .before .before .before .before .before .put-field .ensures)
-    (then-put _ _ _ _ _ _ (c .before .before .before .before .before .before .before .before .before .before .put-field2 .ensures) (then-put _ _ _ _ _ _ (c .before .before .before .before .before .before .put-field3 .ensures) (c .before .before .put-extended .ensures)))
+    let e = c .before .before .before .before .before .before in
+    then-put _ _ _ _ _ _ (e .before .before .before .before .put-sync .ensures) (then-put _ _ _ _ _ _ (e .put-field .ensures) (c .before .before .put-extended .ensures))
 
 pub put-header-spec : {M : Type 1} → statement M
 put-header-spec =
     tie.close
     (tie.spec
-    cast-put-field
+    put-sync-requires
     put-field-requires
-    put-field-requires-2
-    put-field-requires-3
     put-extended-requires
     same-length
     returns)

@@ -3,10 +3,10 @@ use mathlib.Core.Bool.{not}
 use mathlib.Core.Path.{ap}
 use borrow.Author.Tests.{eq-eqb, ne-eqb}
 use Rattle.emdf_format.proofs.Standing.{fails, holds}
 use Rattle.emdf_contents.proofs.Asked.{stop, go}
-use Rattle.emdf_edit.specs.Fields.{writableProtection}
-use Rattle.emdf_edit.proofs.writable_protection.Statement.{statement}
-use Rattle.emdf_edit.proofs.writable_protection.Tie as tie
+use Rattle.emdf_contents.specs.Parts.{writableProtection}
+use Rattle.emdf_contents.proofs.writable_protection.Statement.{statement}
+use Rattle.emdf_contents.proofs.writable_protection.Tie as tie
 
 returns : tie.Need-returns
 unfolding writableProtection

@@ -1,0 +1,124 @@
+-- Where the bits that an edit replaces stand in a carrier that is read. Assumes nothing.
+use mathlib.Core.Path.{_≡_, refl, ap, subst}
+use mathlib.Core.Bool.{true}
+use mathlib.Core.List.{List, [], _∷_}
+use mathlib.Core.Option.{Option, none, some}
+use Prim.Native.Nat.{ℕ, zero, suc, _+_, _≤_, _<_}
+use native.Mathlib.Omega.{arith}
+use lib.ListN.{length, take, getElem?}
+use lib.Seq.{take-all}
+use lib.Dec.{ltb, ltb→lt}
+use Rattle.openjoc_bitio.proofs.Bits.{length-number}
+use Rattle.emdf_format.specs.Contents.{Payload, Contents, payloadBits, containerBits, extensionBits, neededPayloads}
+use Rattle.emdf_format.specs.Reading.{Found, Container, accepted, reading, payloadOf, payloadsOf, contentsOf}
+use Rattle.emdf_format.specs.Edits.{Edit, bodyEdit, settingsEdit, dropEdit, insertEdit, keyEdit, protectionEdit, change, placeExists}
+use Rattle.emdf_format.proofs.Standing.{T-of, length-then, stands-to}
+use Rattle.emdf_format.proofs.Lengths.{length-extended, length-payload, length-payloads, length-container}
+use Rattle.emdf_format.proofs.Carrier.{read-contained}
+use Rattle.emdf_format.proofs.Splice.{Splice, listBits, bitsBefore, splice-body, splice-settings, splice-drop, splice-insert, splice-key, splice-protection, Parts, located, payload-at}
+use Rattle.emdf_plan.specs.Plan.{placeOf, newBits, traceAt, layoutOf, runOf}
+
+-- the edit e of the container k is the splice of the bits that runOf names
+pub record Cutting (e : Edit) (k : Container) : Type 0 where
+  pub splice : Splice (contentsOf k) (change e (contentsOf k))
+  pub new : splice .new ≡ newBits e
+  pub from : runOf e (layoutOf (placeOf e) k) .from .0 ≡ 32 + length (splice .before)
+  pub to : runOf e (layoutOf (placeOf e) k) .to .0 ≡ runOf e (layoutOf (placeOf e) k) .from .0 + length (splice .old)
+  pub end : layoutOf (placeOf e) k .end .0 ≡ runOf e (layoutOf (placeOf e) k) .to .0 + length (splice .after)
+
+-- ---- a splice takes all of a container and makes all of another
+
+pub splice-lengths : {c d : Contents} (x : Splice c d)
+    → (length (containerBits c) ≡ length (x .before) + (length (x .old) + length (x .after)))
+    × (length (containerBits d) ≡ length (x .before) + (length (x .new) + length (x .after)))
+splice-lengths x = (rw (length-then, length-then) at (ap length (x .was)), rw (length-then, length-then) at (ap length (x .is)))
+
+-- so that the end follows from its run
+cut-as : (k : Container) (e : Edit) (x : Splice (contentsOf k) (change e (contentsOf k))) → x .new ≡ newBits e
+    → runOf e (layoutOf (placeOf e) k) .from .0 ≡ 32 + length (x .before)
+    → runOf e (layoutOf (placeOf e) k) .to .0 ≡ runOf e (layoutOf (placeOf e) k) .from .0 + length (x .old)
+    → Cutting e k
+unfolding layoutOf
+cut-as k e x new from to =
+    record { splice = x; new = new; from = from; to = to; end = omega (arith, length-container (contentsOf k), splice-lengths x, from, to) }
+
+-- ---- payloads by their place
+
+element : (xs : List Found) (j : ℕ) → j < length xs → (x : Found) × (getElem? xs j ≡ some x)
+element [] j h = absurd (omega arith)
+element (x ∷ xs) zero h = (x, refl)
+element (x ∷ xs) (suc j) h = element xs j (omega arith)
+
+pub as-many : (xs : List Found) → length (payloadsOf xs) ≡ length xs
+unfolding payloadsOf
+as-many [] = refl
+as-many (x ∷ xs) = ap suc (as-many xs)
+
+past-all : (xs : List Found) (j : ℕ) → getElem? xs j ≡ none → length (payloadsOf xs) ≤ j
+unfolding payloadsOf
+past-all [] j h = omega arith
+past-all (x ∷ xs) zero h = absurd (let w : _≡_ {A = ℕ} 0 1 = cc in omega arith)
+past-all (x ∷ xs) (suc j) h = omega (arith, past-all xs j h)
+
+length-list : (xs : List Payload) → length (listBits xs) ≡ neededPayloads xs
+unfolding listBits neededPayloads
+length-list [] = refl
+length-list (x ∷ xs) = simp length-then (omega (arith, length-payload x, length-list xs))
+
+length-before : (c : Contents) (j : ℕ) → length (bitsBefore c j) ≡ 5 + extensionBits 3 (c .key-id) + length (listBits (take j (c .payloads)))
+unfolding bitsBefore
+length-before c j = simp (length-then, length-number) (omega (arith, length-extended 3 (c .key-id)))
+
+module _ (s : List ℕ) (n : ℕ) (k : Container) (r : reading s ≡ accepted n k) where
+  abbrev c : Contents
+  c = contentsOf k
+
+  -- each stands after those before it
+  parts-at : (j : ℕ) {x : Found} → getElem? (k .found) j ≡ some x → Parts x (32 + length (bitsBefore c j))
+  parts-at j {x} h =
+      let d = read-contained s n k r .1 in
+      let first = rw (length-then, length-number) at (stands-to (d .key)) in
+      subst (Parts x) (omega (arith, first, length-extended 3 (k .key-id), length-before c j)) (located j (d .listed .traced) h)
+
+  there : (j : ℕ) → ltb j (length (k .found)) ≡ true
+      → (x : Found) × (getElem? (k .found) j ≡ some x) × (getElem? (c .payloads) j ≡ some (payloadOf x)) × Parts x (32 + length (bitsBefore c j))
+  there j p = let (x, h) = element (k .found) j (ltb→lt j (length (k .found)) (T-of p)) in (x, h, payload-at (k .found) j h, parts-at j h)
+
+  -- and the end mark after all of them
+  place-at : (j : ℕ) → layoutOf j k .place .«payload_id_start_bit» .0 ≡ 32 + length (bitsBefore c j)
+  unfolding layoutOf traceAt
+  place-at j = go (getElem? (k .found) j) refl
+    where
+      go : (o : Option Found) → getElem? (k .found) j ≡ o
+          → traceAt o (37 + extensionBits 3 (k .key-id) + neededPayloads (c .payloads)) .«payload_id_start_bit» .0 ≡ 32 + length (bitsBefore c j)
+      go (some x) h = parts-at j h .id
+      go none h =
+          let all = rw (take-all j (c .payloads) (past-all (k .found) j h)) at (length-before c j) in
+          omega (arith, all, length-list (c .payloads))
+
+-- ---- the six edits
+
+pub cutting : (s : List ℕ) (n : ℕ) (k : Container) (e : Edit) → reading s ≡ accepted n k → placeExists e (length (k .found)) ≡ true → Cutting e k
+unfolding placeExists placeOf newBits layoutOf traceAt runOf payloadBits splice-body splice-settings splice-drop splice-insert splice-key splice-protection
+cutting s n k (bodyEdit j bs) r p =
+    let (x, h, at, parts) = there s n k r j p in
+    cut-as k (bodyEdit j bs) (splice-body (contentsOf k) j at bs) refl
+    (rw h (simp length-then (omega (arith, parts .config, parts .size))))
+    (rw h (simp length-then (omega (arith, parts .body, parts .end))))
+cutting s n k (settingsEdit j t) r p =
+    let (x, h, at, parts) = there s n k r j p in
+    cut-as k (settingsEdit j t) (splice-settings (contentsOf k) j at t) refl (rw h (simp length-then (omega (arith, parts .config)))) (rw h (parts .size))
+cutting s n k (dropEdit j) r p =
+    let (x, h, at, parts) = there s n k r j p in
+    cut-as k (dropEdit j) (splice-drop (contentsOf k) j at) refl (rw h (parts .id))
+    (rw h (simp length-then (omega (arith, parts .id, parts .config, parts .size, parts .body, parts .end))))
+cutting s n k (insertEdit j i t bs) r p =
+    cut-as k (insertEdit j i t bs) (splice-insert (contentsOf k) j i t bs) refl (place-at s n k r j) (omega arith)
+cutting s n k (keyEdit i) r p =
+    cut-as k (keyEdit i) (splice-key (contentsOf k) i) refl (rw length-number) (omega (arith, length-extended 3 (k .key-id)))
+cutting s n k (protectionEdit a b) r p =
+    let c = contentsOf k in
+    let x = splice-protection c a b in
+    let from : 37 + extensionBits 3 (c .key-id) + neededPayloads (c .payloads) + 5 ≡ 32 + length (x .before) =
+    simp (length-then, length-number) (omega (arith, length-extended 3 (c .key-id), length-payloads (c .payloads))) in
+    cut-as k (protectionEdit a b) x refl from (omega (arith, from, length-container c, splice-lengths x))

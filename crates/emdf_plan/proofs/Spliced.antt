@@ -1,0 +1,150 @@
+-- What a plan says of its edit: a splice makes the carrier of what the step leaves, and a refusal is the step's. Assumes nothing.
+use mathlib.Core.Path.{_≡_, refl, ap, _∙_}
+use mathlib.Core.Bool.{Bool, true, false}
+use mathlib.Core.List.{List}
+use Prim.Native.Nat.{ℕ, _+_, _-_, _*_, _^_, _≤_, _<_}
+use native.Mathlib.Omega.{arith}
+use lib.ListN.{length}
+use lib.Seq.{take-at, drop-at}
+use lib.Dec.{leb, eqb, leb→le, eqb→eq}
+use Rattle.openjoc_bitio.specs.Choice.{if_then_else_}
+use Rattle.openjoc_bitio.specs.Bits.{numberBits}
+use Rattle.openjoc_bitio.proofs.Bits.{length-number}
+use Rattle.emdf_format.specs.declared.EditError.{EditError}
+use Rattle.emdf_format.specs.Syntax.{_⨟_, octetBits}
+use Rattle.emdf_format.specs.Contents.{Contents, writable, declared, containerBits, carrierBits, carrier}
+use Rattle.emdf_format.specs.Reading.{Reading, accepted, refusal, reading, contentsOf}
+use Rattle.emdf_format.specs.Edits.{Edit, change, placeExists, Stepped, changed, unchanged, carrierLength, inRoom, weighed, step, stepFrom, Bytes}
+use Rattle.emdf_format.proofs.Standing.{T-of, length-then}
+use Rattle.emdf_format.proofs.Bytes.{declared-is, octets-carrier, length-carrier}
+use Rattle.emdf_format.proofs.Carrier.{read-size}
+use Rattle.emdf_format.proofs.Lists.{carried}
+use Rattle.emdf_format.proofs.Splice.{Splice as SpliceOf, ⨟-assoc}
+use Rattle.emdf_writer.specs.Writing.{bitRun}
+use Rattle.emdf_plan.specs.declared.Cut.{Cut}
+use Rattle.emdf_plan.specs.declared.Run.{Run}
+use Rattle.emdf_plan.specs.declared.Plan.the-variants.{Splice, Refused}
+use Rattle.emdf_plan.specs.Plan.{placeOf, newBits, layoutOf, runOf, cutAt, planned, planFrom, planOf, spliced}
+use Rattle.emdf_plan.proofs.Cutting.{splice-lengths, as-many, cutting}
+
+-- ---- the bits of a carrier around a cut
+
+-- bits that stand after others
+run-after : (s xs ys zs : List ℕ) (p n : ℕ) → length xs ≡ p → length ys ≡ n → octetBits s ≡ xs ⨟ ys ⨟ zs → bitRun s p n ≡ ys
+unfolding bitRun _⨟_
+run-after s xs ys zs p n k l h = rw (h, drop-at xs (ys ⨟ zs) p k) (take-at ys zs n l)
+
+-- the bits of the container after a cut
+kept-bits : {c d : Contents} (x : SpliceOf c d) (cut : Cut) → cut .from .0 ≡ 32 + length (x .before)
+    → cut .to .0 ≡ cut .from .0 + length (x .old) → cut .end .0 ≡ cut .to .0 + length (x .after)
+    → (cut .from .0 - 32) + length (x .new) + (cut .end .0 - cut .to .0) ≡ length (containerBits d)
+kept-bits x cut from to end = omega (arith, from, to, end, splice-lengths x)
+
+-- cut where a splice of its container replaces bits, a carrier becomes that of the other contents
+spliced-carrier : {c d : Contents} (x : SpliceOf c d) (cut : Cut) → cut .size .0 ≡ declared d → cut .from .0 ≡ 32 + length (x .before)
+    → cut .to .0 ≡ cut .from .0 + length (x .old) → cut .end .0 ≡ cut .to .0 + length (x .after) → spliced (carrier c) cut (x .new) ≡ carrierBits d
+unfolding spliced carrierBits
+spliced-carrier {c} {d} x cut size from to end =
+    let sync = numberBits 16 0x5838 ⨟ numberBits 16 (declared c) in
+    let pad = numberBits (8 * declared c - length (containerBits c)) 0 in
+    let all : octetBits (carrier c) ≡ sync ⨟ x .before ⨟ x .old ⨟ x .after ⨟ pad = octets-carrier c ∙ rw (x .was) (simp ⨟-assoc) in
+    let before : bitRun (carrier c) 32 (cut .from .0 - 32) ≡ x .before =
+    run-after _ sync _ _ _ _ (simp (length-then, length-number)) (omega (arith, from)) all in
+    let after : bitRun (carrier c) (cut .to .0) (cut .end .0 - cut .to .0) ≡ x .after =
+    run-after _ (sync ⨟ x .before ⨟ x .old) _ pad _ _ (simp (length-then, length-number) (omega (arith, from, to))) (omega (arith, end)) (all ∙ simp ⨟-assoc) in
+    rw (before, after, size, kept-bits x cut from to end, x .is) (simp ⨟-assoc)
+
+-- ---- the questions of a step that changes something
+
+-- it is answered yes, and leads there
+asked : (t : Bool) (o : Stepped) (why : EditError) {d : Contents}
+    → (if t then o else unchanged why) ≡ changed d → (t ≡ true) × (o ≡ changed d)
+asked true o why h = (refl, h)
+asked false o why h = absurd (let z : _≡_ {A = ℕ} 0 1 = cc in omega arith)
+
+-- what they say of the changed contents
+record Weighed (e : Edit) (room : ℕ) (c d : Contents) : Type 0 where
+  place : placeExists e (length (c .payloads)) ≡ true
+  small : declared (change e c) ≤ 65535
+  fits : carrierLength (change e c) ≤ room
+  is : change e c ≡ d
+
+weigh : (e : Edit) (room : ℕ) (c d : Contents) → step e room c ≡ changed d → Weighed e room c d
+unfolding step weighed inRoom
+weigh e room c d h =
+    let (place, h₁) = asked (placeExists e (length (c .payloads))) _ _ h in
+    let (f, h₂) = asked (writable (change e c)) _ _ h₁ in
+    let (small, h₃) = asked (leb (declared (change e c)) 65535) _ _ h₂ in
+    let (fits, h₄) = asked (leb (carrierLength (change e c)) room) _ _ h₃ in
+    record {
+      place = place;
+      small = leb→le (declared (change e c)) 65535 (T-of small);
+      fits = leb→le (carrierLength (change e c)) room (T-of fits);
+      is = cc;
+    }
+
+-- ---- what a plan says
+
+-- the step is made, and its carrier is the source with other bits between from and to
+pub record Spliceable (e : Edit) (src : List ℕ) (room : ℕ) (cut : Cut) : Type 0 where
+  pub contents : Contents
+  pub is : stepFrom (reading src) (length src) e room ≡ changed contents
+  pub size : cut .size .0 ≡ declared contents
+  pub small : cut .size .0 < 65536
+  pub fits : carrierLength contents ≤ room
+  pub starts : 32 ≤ cut .from .0
+  pub ordered : cut .from .0 ≤ cut .to .0
+  pub ends : cut .to .0 ≤ cut .end .0
+  pub there : cut .end .0 ≤ length src * 8
+  pub short : length src < 2 ^ 61
+  pub kept : (cut .from .0 - 32) + length (newBits e) + (cut .end .0 - cut .to .0) ≡ length (containerBits contents)
+  pub bits : spliced src cut (newBits e) ≡ carrierBits contents
+
+planned-splice : (o : Stepped) (r : Run) (end : ℕ) {cut : Cut} → planned o r end ≡ Splice cut
+    → (d : Contents) × (o ≡ changed d) × (cutAt r end (declared d) ≡ cut)
+unfolding planned
+planned-splice (changed d) r end h = (d, refl, cc)
+planned-splice (unchanged why) r end h = absurd (let z : _≡_ {A = ℕ} 0 1 = cc in omega arith)
+
+planned-refused : (o : Stepped) (r : Run) (end : ℕ) {why : EditError} → planned o r end ≡ Refused why → o ≡ unchanged why
+unfolding planned
+planned-refused (changed d) r end h = absurd (let z : _≡_ {A = ℕ} 0 1 = cc in omega arith)
+planned-refused (unchanged why) r end h = cc
+
+pub plan-splice : (e : Edit) (src : List ℕ) (room : ℕ) (cut : Cut) → Bytes src → planOf e src room ≡ Splice cut → Spliceable e src room cut
+unfolding planOf planFrom stepFrom cutAt
+plan-splice e src room cut b h = from (reading src) refl h
+  where
+    from : (r : Reading) → reading src ≡ r → planFrom r (length src) e room ≡ Splice cut → Spliceable e src room cut
+    from (refusal why) r h = absurd (let z : _≡_ {A = ℕ} 0 1 = cc in omega arith)
+    from (accepted n k) r h =
+        let c : Contents = contentsOf k in
+        let (d, i, z) = planned-splice _ _ _ h in
+        let (m, j) = asked (eqb n (length src)) _ _ i in
+        let w = weigh e room c d j in
+        let q : n ≡ length src = eqb→eq n (length src) (T-of m) in
+        let s : src ≡ carrier c = carried src k b (r ∙ rw q) .is in
+        let g = cutting src n k e r (rw as-many at (w .place)) in
+        rw (← z, ← w .is) (record {
+          contents = change e c;
+          is = rw r (i ∙ rw (w .is));
+          size = refl;
+          small = omega (arith, w .small);
+          fits = w .fits;
+          starts = omega (arith, g .from);
+          ordered = omega (arith, g .to);
+          ends = omega (arith, g .end);
+          there = omega (arith, g .from, g .to, g .end, splice-lengths (g .splice), declared-is c, ap length s, length-carrier c);
+          short = omega (arith, read-size src n k r);
+          kept = rw (← g .new) (kept-bits (g .splice) (cutAt (runOf e (layoutOf (placeOf e) k)) (layoutOf (placeOf e) k .end .0) (declared (change e c))) (g .from) (g .to) (g .end));
+          bits = rw (s, ← g .new) (spliced-carrier (g .splice) _ refl (g .from) (g .to) (g .end));
+        })
+
+pub plan-refused : (e : Edit) (src : List ℕ) (room : ℕ) (why : EditError) → planOf e src room ≡ Refused why
+    → stepFrom (reading src) (length src) e room ≡ unchanged why
+unfolding planOf planFrom stepFrom
+plan-refused e src room why h = from (reading src) h
+  where
+    from : (r : Reading) → planFrom r (length src) e room ≡ Refused why → stepFrom r (length src) e room ≡ unchanged why
+    from (refusal y) h = cc
+    from (accepted n k) h = planned-refused _ _ _ h
