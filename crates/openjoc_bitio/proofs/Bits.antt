@@ -1,14 +1,16 @@
 -- Laws of bits and of the numbers that they make, for every crate that reads or writes them. Assumes nothing.
 use mathlib.Core.Path.{_≡_, refl, sym, ap, _∙_}
+use mathlib.Core.Bool.{Bool, true, false}
 use mathlib.Core.List.{List, _++_}
 use Prim.Native.Nat.{ℕ, zero, suc, _+_, _-_, _*_, _/_, _%_, _^_, _<_, _≤_}
-use native.Mathlib.Nat.{pow-suc, add-zero, add-suc, add-assoc, mul-assoc, mul-comm, mul-one, mod-one, mul-add-div-right}
+use native.Mathlib.Nat.{pow-suc, add-zero, add-suc, add-assoc, mul-assoc, mul-comm, mul-one, mod-one, div-one, mul-add-div-right}
 use native.Mathlib.Numerals.{add-one}
 use native.Mathlib.Omega.{arith}
 use lib.ListN.{length, getD, take, drop, List·getD-append}
 use lib.Seq.{getD-take, getD-drop}
-use lib.Dec.{lit<}
-use lib.Pow.{mod-pow-add, shr-shr, pow-mono, pow-add, pow-pos}
+use lib.Dec.{leb, lit<}
+use borrow.Author.Tests.{leb-true, leb-false}
+use lib.Pow.{mod-pow-add, shr-shr, high, field, pow-mono, pow-add, pow-pos}
 use lib.Pow.{split as pow-split}
 use Rattle.openjoc_bitio.specs.Bits.{bitAt, bitsValue, numberBits}
 
@@ -61,6 +63,53 @@ pub value-octet : (s : List ℕ) (q t e : ℕ) → q % 8 + t + e ≡ 8 → bitsV
 unfolding bitsValue
 value-octet s q zero e h = sym (mod-one _)
 value-octet s q (suc t) e h = rw (value-octet s q t (suc e) (omega arith), bit-octet s q t e (omega arith), half)
+
+-- ---- bits of one octet or of two that adjoin
+
+-- the t low bits of a, and the u high ones of the octet b
+pair-bits : (a b t u e : ℕ) → e + u ≡ 8 → b < 2 ^ 8 → (a * 2 ^ 8 + b) / 2 ^ e % 2 ^ (t + u) ≡ a % 2 ^ t * 2 ^ u + b / 2 ^ e % 2 ^ u
+pair-bits a b t u e h l =
+    let x = a * 2 ^ 8 + b in
+    let f : u + e ≡ 8 = omega arith in
+    let above : x / 2 ^ e / 2 ^ u ≡ a = shr-shr x e u ∙ ap (λ (k : ℕ). x / 2 ^ k) h ∙ high a 8 l in
+    let low-bits : x % 2 ^ 8 ≡ b % 2 ^ 8 = omega arith in
+    let below : x / 2 ^ e % 2 ^ u ≡ b / 2 ^ e % 2 ^ u =
+    sym (field x u e) ∙ ap (λ (k : ℕ). x % 2 ^ k / 2 ^ e) f ∙ ap (λ (v : ℕ). v / 2 ^ e) low-bits ∙ ap (λ (k : ℕ). b % 2 ^ k / 2 ^ e) (sym f) ∙ field b u e in
+    mod-pow-add (x / 2 ^ e) t u ∙ rw (above, below)
+
+edge : (p : ℕ) → (p + (8 - p % 8)) % 8 ≡ 0
+edge p = omega arith
+
+-- at most 8 bits, by the octet that the first of them is in and the one that the last is in
+pub value-pair : (s : List ℕ) (p w : ℕ) → 0 < w → w ≤ 8 → getD s ((p + w - 1) / 8) 0 < 2 ^ 8
+    → bitsValue s p w ≡ (getD s (p / 8) 0 * 2 ^ 8 + getD s ((p + w - 1) / 8) 0) / 2 ^ (16 - p % 8 - w) % 2 ^ w
+value-pair s p w h k l = by-end (leb (p % 8 + w) 8) refl
+  where
+    a : ℕ
+    a = getD s (p / 8) 0
+
+    b : ℕ
+    b = getD s ((p + w - 1) / 8) 0
+
+    by-end : (t : Bool) → leb (p % 8 + w) 8 ≡ t → bitsValue s p w ≡ (a * 2 ^ 8 + b) / 2 ^ (16 - p % 8 - w) % 2 ^ w
+    by-end true i =
+        let m : p % 8 + w ≤ 8 = leb-true (p % 8 + w) 8 i in
+        let e = 8 - p % 8 - w in
+        let z : 16 - p % 8 - w ≡ 8 + e = omega arith in
+        value-octet s p w e (omega arith) ∙ ap (λ (v : ℕ). v / 2 ^ e % 2 ^ w) (sym (high a 8 l)) ∙ ap (λ (v : ℕ). v % 2 ^ w) (shr-shr (a * 2 ^ 8 + b) 8 e ∙ ap (λ (n : ℕ). (a * 2 ^ 8 + b) / 2 ^ n) (sym z))
+    by-end false i =
+        let m : 8 < p % 8 + w = leb-false (p % 8 + w) 8 i in
+        let t = 8 - p % 8 in
+        let u = w - t in
+        let e = 8 - u in
+        let c : (p + t) / 8 ≡ (p + w - 1) / 8 = omega arith in
+        let d : (p + t) % 8 ≡ 0 = edge p in
+        let x : w ≡ t + u = omega arith in
+        let z : e ≡ 16 - p % 8 - w = omega arith in
+        let first : bitsValue s p t ≡ a % 2 ^ t = value-octet s p t 0 (omega arith) ∙ rw div-one in
+        let second : bitsValue s (p + t) u ≡ b / 2 ^ e % 2 ^ u = value-octet s (p + t) u e (rw d (omega arith)) ∙ rw c in
+        let both : bitsValue s p (t + u) ≡ (a * 2 ^ 8 + b) / 2 ^ e % 2 ^ (t + u) = value-split s p t u ∙ rw (first, second) (sym (pair-bits a b t u e (omega arith) l)) in
+        ap (bitsValue s p) x ∙ both ∙ sym (ap (λ (n : ℕ). (a * 2 ^ 8 + b) / 2 ^ n % 2 ^ w) (sym z) ∙ ap (λ (n : ℕ). (a * 2 ^ 8 + b) / 2 ^ e % 2 ^ n) x)
 
 -- ---- the same bits elsewhere
 

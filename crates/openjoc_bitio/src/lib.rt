@@ -176,8 +176,33 @@ fn bit_at(s: &[u8], p: usize) -> u64
     (wide(s[i]) >> k) % 2
 }
 
-// The value of the w bits from position p, taken an octet at a time.
+// The value of the w bits from position p.
 fn value_at(s: &[u8], p: usize, w: usize) -> u64
+    requires { ⌜ (w ≤ 64) × (w ≤ length (now s) * 8 - p) × (p + w < 2 ^ 64) ⌝ }
+    ensures { λ r. ⌜ r ≡ bitsValue (now (s .entry)) p w ⌝ }
+{
+    if w == 0 {
+        return 0;
+    }
+    if w <= 8 {
+        return short_value(s, p, w);
+    }
+    long_value(s, p, w)
+}
+
+// Few bits lie in one octet or in two that adjoin: of these the first bits are dropped, and the last.
+fn short_value(s: &[u8], p: usize, w: usize) -> u64
+    requires { ⌜ (0 < w) × (w ≤ 8) × (w ≤ length (now s) * 8 - p) × (p + w < 2 ^ 64) ⌝ }
+    ensures { λ r. ⌜ r ≡ bitsValue (now (s .entry)) p w ⌝ }
+{
+    let first = p / 8;
+    let last = (p + w - 1) / 8;
+    let pair = wide(s[first]) * 256 + wide(s[last]);
+    (pair >> (16 - p % 8 - w)) % pow2(w)
+}
+
+// Many bits are taken an octet at a time.
+fn long_value(s: &[u8], p: usize, w: usize) -> u64
     requires { ⌜ (w ≤ 64) × (w ≤ length (now s) * 8 - p) × (p + w < 2 ^ 64) ⌝ }
     ensures { λ r. ⌜ r ≡ bitsValue (now (s .entry)) p w ⌝ }
 {
