@@ -28,8 +28,13 @@ enum {
     EMDF_TABLE_TOO_SHORT = 13,    /* payloads */
     EMDF_PAYLOAD_COUNT = 14,      /* payloads with id 11, payloads with id 14 */
     EMDF_CONFIGURATION = 15,      /* marks, how many of them are set */
-    EMDF_NO_SUCH_PAYLOAD = 16,
-    EMDF_SCRATCH_TOO_SHORT = 19   /* needed (bytes) */
+    EMDF_NO_SUCH_PAYLOAD = 16,    /* of emdf_move_body */
+    EMDF_NO_SUCH_PLACE = 16,      /* of an edit */
+    EMDF_NOT_WRITABLE = 17,
+    EMDF_TOO_LONG = 18,
+    EMDF_SCRATCH_TOO_SHORT = 19,  /* of emdf_move_body: needed (bytes) */
+    EMDF_DESTINATION_TOO_SHORT = 19, /* of an edit: needed (bytes) */
+    EMDF_TRAILING_BYTES = 20      /* of an edit: the source is more than one carrier */
 };
 
 /* The size in bytes of a bit or field call's answer, and where its six numbers stand (see emdf_word). */
@@ -154,7 +159,37 @@ enum {
     EMDF_ROW_BODY_END_BIT = 26
 };
 
-/* The i-th number of an answer or a row: 8 bytes, the most significant first. */
+/* The size in bytes of an edit's or emdf_blank's answer, and where the number of an accepted one stands. */
+#define EMDF_EDIT_ANSWER 16
+enum {
+    EMDF_WRITTEN_LENGTH = 0 /* the new carrier's length in bytes; number 1 is 0 */
+};
+
+/* The size in bytes of a payload's settings, as the edits take them, and where their 18 numbers stand. They are numbers 1 to 18
+   of a row: a payload's settings are the EMDF_SETTINGS bytes of its row from 8 * EMDF_ROW_HAS_SAMPLE_OFFSET on. */
+#define EMDF_SETTINGS 144
+enum {
+    EMDF_SETTINGS_HAS_SAMPLE_OFFSET = 0,
+    EMDF_SETTINGS_SAMPLE_OFFSET = 1,
+    EMDF_SETTINGS_HAS_DURATION = 2,
+    EMDF_SETTINGS_DURATION = 3,
+    EMDF_SETTINGS_HAS_GROUP_ID = 4,
+    EMDF_SETTINGS_GROUP_ID = 5,
+    EMDF_SETTINGS_CODEC_DATA_PRESENT = 6,
+    EMDF_SETTINGS_DISCARD_UNKNOWN_PAYLOAD = 7,
+    EMDF_SETTINGS_HAS_PAYLOAD_FRAME_ALIGNED = 8,
+    EMDF_SETTINGS_PAYLOAD_FRAME_ALIGNED = 9,
+    EMDF_SETTINGS_HAS_CREATE_DUPLICATE = 10,
+    EMDF_SETTINGS_CREATE_DUPLICATE = 11,
+    EMDF_SETTINGS_HAS_REMOVE_DUPLICATE = 12,
+    EMDF_SETTINGS_REMOVE_DUPLICATE = 13,
+    EMDF_SETTINGS_HAS_PRIORITY = 14,
+    EMDF_SETTINGS_PRIORITY = 15,
+    EMDF_SETTINGS_HAS_PROCESSING_ALLOWED = 16,
+    EMDF_SETTINGS_PROCESSING_ALLOWED = 17
+};
+
+/* The i-th number of an answer, a row or settings: 8 bytes, the most significant first. */
 static inline uint64_t emdf_word(const uint8_t *answer, size_t i)
 {
     uint64_t v = 0;
@@ -162,6 +197,16 @@ static inline uint64_t emdf_word(const uint8_t *answer, size_t i)
     for (k = 0; k < 8; k++)
         v = v << 8 | answer[8 * i + k];
     return v;
+}
+
+/* Makes v the i-th number of settings. */
+static inline void emdf_set_word(uint8_t *settings, size_t i, uint64_t v)
+{
+    size_t k;
+    for (k = 8; k > 0; k--) {
+        settings[8 * i + k - 1] = (uint8_t)(v & 255);
+        v >>= 8;
+    }
 }
 
 /* Bits, most significant first. position and end count bits from the first bit of bytes. */
@@ -189,6 +234,28 @@ uint32_t emdf_move_body(const uint8_t *bytes, size_t length, size_t place, uint8
 
 /* Whether the carrier at the start of bytes meets a profile: EMDF_STRICT or EMDF_COMPAT. */
 uint32_t emdf_verdict(const uint8_t *bytes, size_t length, uint32_t profile, uint8_t *answer);
+
+/* The six edits. The source is exactly one carrier; the changed one goes to the first bytes of the destination. The rest of the
+   destination, and all of it where the call refuses, stays as it was. Places count from 0; an insert stands before the payload
+   at place, or after the last where place is the count. */
+uint32_t emdf_edit_body(const uint8_t *source, size_t source_length, size_t place, const uint8_t *body, size_t body_length,
+                        uint8_t *destination, size_t destination_length, uint8_t *answer);
+uint32_t emdf_edit_settings(const uint8_t *source, size_t source_length, size_t place, const uint8_t *settings,
+                            size_t settings_length, uint8_t *destination, size_t destination_length, uint8_t *answer);
+uint32_t emdf_edit_drop(const uint8_t *source, size_t source_length, size_t place, uint8_t *destination,
+                        size_t destination_length, uint8_t *answer);
+uint32_t emdf_edit_insert(const uint8_t *source, size_t source_length, size_t place, uint64_t id, const uint8_t *settings,
+                          size_t settings_length, const uint8_t *body, size_t body_length, uint8_t *destination,
+                          size_t destination_length, uint8_t *answer);
+uint32_t emdf_edit_key(const uint8_t *source, size_t source_length, uint64_t key, uint8_t *destination,
+                       size_t destination_length, uint8_t *answer);
+uint32_t emdf_edit_protection(const uint8_t *source, size_t source_length, const uint8_t *primary, size_t primary_length,
+                              const uint8_t *secondary, size_t secondary_length, uint8_t *destination,
+                              size_t destination_length, uint8_t *answer);
+
+/* The carrier of a key id and protections, without payloads, into the destination as an edit's. */
+uint32_t emdf_blank(uint64_t key, const uint8_t *primary, size_t primary_length, const uint8_t *secondary,
+                    size_t secondary_length, uint8_t *destination, size_t destination_length, uint8_t *answer);
 
 #ifdef __cplusplus
 }

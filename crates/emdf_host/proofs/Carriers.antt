@@ -1,6 +1,6 @@
 -- Laws of the answers on carriers. Assumes nothing.
 use mathlib.Core.Path.{_≡_, refl, sym, ap, _∙_}
-use mathlib.Core.List.{List, [], _∷_, _++_}
+use mathlib.Core.List.{List, [], _∷_, _++_, append-nil, append-assoc}
 use Prim.Native.Nat.{ℕ, zero, suc, _+_, _*_, _/_, _<_, _≤_}
 use native.Mathlib.Nat.{zero-add}
 use native.Mathlib.Omega.{arith}
@@ -13,12 +13,11 @@ use Rattle.openjoc_bitio.specs.declared.BitError.{BitError}
 use Rattle.openjoc_bitio.specs.declared.BitError.the-variants as BitError
 use Rattle.openjoc_bitio.specs.Cursor as bit
 use Rattle.emdf_format.specs.Reading.{Found, Container, reading}
-use Rattle.emdf_format.specs.Calls.{number, figures, recordsNumber, recordsFigures, bodyNumber, bodyFigures, recordsOf, inTable, Records, unrecorded, Class, nonEmdf, parsed, trailingData, malformed}
+use Rattle.emdf_format.specs.Calls.{number, figures, recordsNumber, recordsFigures, bodyFigures, recordsOf, inTable, Records, unrecorded, Class, nonEmdf, parsed, trailingData, malformed}
 use Rattle.emdf_format.specs.declared.EmdfError.{EmdfError}
 use Rattle.emdf_format.specs.declared.EmdfError.the-variants.{TruncatedContainer, InvalidSyncword, Bit, InvalidVariableBits, VariableBitsGroupLimit, ValueOverflow, UnsupportedVersion, NonzeroReservedData, ReservedPrimaryProtectionLength, ExcessPadding, NonzeroPadding}
 use Rattle.emdf_format.specs.declared.RecordsError.{RecordsError}
 use Rattle.emdf_format.specs.declared.RecordsError.the-variants.{Emdf, TableTooShort}
-use Rattle.emdf_format.specs.declared.BodyError.{BodyError}
 use Rattle.emdf_format.specs.declared.BodyAnswer.{BodyAnswer}
 use Rattle.emdf_format.specs.declared.BodyAnswer.the-variants as BodyAnswer
 use Rattle.emdf_format.specs.declared.Optional.{Optional}
@@ -41,11 +40,54 @@ use Rattle.emdf_host.proofs.Form.{length-words, sets-append, words-stor
 
 -- ---- a row
 
+abbrev pub presenceOf : Optional → ℕ
+presenceOf o = getD (optionalWords o) 0 0
+
+abbrev pub valueOf : Optional → ℕ
+valueOf o = getD (optionalWords o) 1 0
+
 -- a setting's two numbers, and what follows them
-pub optional-then : (o : Optional) {a b : ℕ} {xs ys : List ℕ} → a ≡ getD (optionalWords o) 0 0 → b ≡ getD (optionalWords o) 1 0 → xs ≡ ys → a ∷ b ∷ xs ≡ optionalWords o ++ ys
+optional-then : (o : Optional) {xs ys : List ℕ} → xs ≡ ys → presenceOf o ∷ valueOf o ∷ xs ≡ optionalWords o ++ ys
 unfolding optionalWords
-optional-then Absent e f g = rw (e, f, g)
-optional-then (Present v) e f g = rw (e, f, g)
+optional-then Absent e = rw e
+optional-then (Present v) e = rw e
+
+-- the 18 numbers one by one
+abbrev pub listed : EmdfPayloadConfig → List ℕ
+listed t =
+    presenceOf (t .«sample_offset»)
+    ∷ valueOf (t .«sample_offset»)
+    ∷ presenceOf (t .duration)
+    ∷ valueOf (t .duration)
+    ∷ presenceOf (t .«group_id»)
+    ∷ valueOf (t .«group_id»)
+    ∷ t .«codec_data_present»
+    ∷ t .«discard_unknown_payload»
+    ∷ presenceOf (t .«payload_frame_aligned»)
+    ∷ valueOf (t .«payload_frame_aligned»)
+    ∷ presenceOf (t .«create_duplicate»)
+    ∷ valueOf (t .«create_duplicate»)
+    ∷ presenceOf (t .«remove_duplicate»)
+    ∷ valueOf (t .«remove_duplicate»)
+    ∷ presenceOf (t .priority)
+    ∷ valueOf (t .priority)
+    ∷ presenceOf (t .«processing_allowed»)
+    ∷ valueOf (t .«processing_allowed»)
+    ∷ []
+
+pub config-listed : (t : EmdfPayloadConfig) → listed t ≡ configWords t
+unfolding configWords
+config-listed t =
+    simp append-assoc
+    (optional-then _
+    (optional-then _
+    (optional-then _
+    (ap (λ (l : List ℕ). t .«codec_data_present» ∷ t .«discard_unknown_payload» ∷ l)
+    (optional-then _
+    (optional-then _
+    (optional-then _
+    (optional-then _
+    (optional-then _ refl ∙ append-nil _)))))))))
 
 length-optional : (o : Optional) → length (optionalWords o) ≡ 2
 unfolding optionalWords
@@ -251,13 +293,22 @@ module _ (s table : List ℕ) where
         rw (o .is, counted, le-leb _ _ l)
         (e .0, e .1 ∙ ap words (g n (o .container) (sym (o .parsed))), f (o .container .found) (o .listed) counted ∙ rows-after table (o .container .found) (omega (arith, counted)))
 
--- ---- a body's move
+-- ---- two numbers, and a body's move
 
-length-padded : (n : ℕ) (vs : List ℕ) → length (padded n vs) ≡ n
+pub length-padded : (n : ℕ) (vs : List ℕ) → length (padded n vs) ≡ n
 unfolding padded
 length-padded zero vs = refl
 length-padded (suc n) [] = ap suc (length-padded n [])
 length-padded (suc n) (v ∷ vs) = ap suc (length-padded n vs)
+
+pub two-words : (n : ℕ) (ws : List ℕ) {f : Figures} → length ws ≡ 2 → f ≡ figured n ws → f .first ∷ f .second ∷ [] ≡ ws
+two-words n ws l e = rw e (rw l at (elements-all ws))
+
+pub figured-padded : (n : ℕ) (fs : List ℕ) → figured n fs ≡ figured n (padded 2 fs)
+unfolding padded
+figured-padded n [] = refl
+figured-padded n (a ∷ []) = refl
+figured-padded n (a ∷ b ∷ fs) = refl
 
 length-move : (m : BodyAnswer) → length (moveWords m) ≡ 2
 unfolding moveWords
@@ -265,13 +316,4 @@ length-move (BodyAnswer.Body start len) = refl
 length-move (BodyAnswer.Refused why) = length-padded 2 (bodyFigures why)
 
 pub move-words : (m : BodyAnswer) {f : Figures} → f ≡ figured (moveNumber m) (moveWords m) → f .first ∷ f .second ∷ [] ≡ moveWords m
-move-words m e = rw e (rw (length-move m) at (elements-all (moveWords m)))
-
-pub move-figures : (why : BodyError) → figured (bodyNumber why) (bodyFigures why) ≡ figured (moveNumber (BodyAnswer.Refused why)) (moveWords (BodyAnswer.Refused why))
-unfolding moveNumber moveWords padded
-move-figures why = go (bodyFigures why)
-  where
-    go : (fs : List ℕ) → figured (bodyNumber why) fs ≡ figured (bodyNumber why) (padded 2 fs)
-    go [] = refl
-    go (a ∷ []) = refl
-    go (a ∷ b ∷ fs) = refl
+move-words m = two-words (moveNumber m) (moveWords m) (length-move m)

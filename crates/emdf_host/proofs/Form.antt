@@ -9,7 +9,7 @@ use lib.ListN.{length, set, drop, getD, length-append}
 use lib.Seq.{sets, sets-eq, drop-cons}
 use Rattle.emdf_host.specs.Form.{bigEndian, words}
 
-length-big-endian : (n v : ℕ) → length (bigEndian n v) ≡ n
+pub length-big-endian : (n v : ℕ) → length (bigEndian n v) ≡ n
 unfolding bigEndian
 length-big-endian zero v = refl
 length-big-endian (suc n) v = ap suc (length-big-endian n v)

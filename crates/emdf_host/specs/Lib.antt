@@ -3,3 +3,5 @@ pub mod Bits
 pub mod Fields
 pub mod Carriers
 pub mod Verdict
+pub mod Settings
+pub mod Edits

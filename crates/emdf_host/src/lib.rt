@@ -1,13 +1,14 @@
 // What a C host calls: exported functions on numbers and byte slices. docs/HOST.md has each byte form.
 ghost use mathlib.Core.Path.{_≡_};
 ghost use mathlib.Core.List.{List, [], _∷_};
-ghost use Prim.Native.Nat.{ℕ, _+_, _*_, _≤_};
+ghost use Prim.Native.Nat.{ℕ, _+_, _*_, _<_, _≤_};
 ghost use lib.ListN.{length, getD};
 ghost use lib.Seq.{sets};
 ghost use Rattle.openjoc_bitio.specs.Cursor.{number as bitNumber, figures as bitFigures};
 ghost use Rattle.emdf_format.specs.Reading.{Found, Container, reading};
-ghost use Rattle.emdf_format.specs.Calls.{number, figures, bodyNumber, bodyFigures, profileNumber, profileFigures, recordsOf, Class, classify, moveBody, foundAt, scratchAfter};
+ghost use Rattle.emdf_format.specs.Calls.{number, figures, bodyNumber, bodyFigures, editNumber, editFigures, profileNumber, profileFigures, recordsOf, Class, classify, moveBody, foundAt, scratchAfter};
 ghost use Rattle.emdf_format.specs.Profile.{verdict};
+ghost use Rattle.emdf_format.specs.Edits.{bodyEdit, settingsEdit, dropEdit, insertEdit, keyEdit, protectionEdit, edited, blank};
 ghost use Rattle.openjoc_emdf.specs.Answers.{parsedEmdf, classAnswer};
 ghost use Rattle.openjoc_emdf.proofs.Walk.{Listed};
 ghost use Rattle.emdf_host.specs.Form.{bigEndian, words};
@@ -15,8 +16,12 @@ ghost use Rattle.emdf_host.specs.Bits.{replyBytes, accepted, refusal, bi
 ghost use Rattle.emdf_host.specs.Fields.{emdfRefusal, fieldReply, variableBitsReply};
 ghost use Rattle.emdf_host.specs.Carriers.{padded, parsedWords, readInto, readNumber, readWords, optionalWords, configWords, traceWords, recordWords, rowsBytes, rowsAfter, classNumber, classWords, moveNumber, moveWords};
 ghost use Rattle.emdf_host.specs.Verdict.{profileOf, verdictNumber, verdictWords, statusWord};
+ghost use Rattle.emdf_host.specs.Settings.{numberAt, optionalAt, pairFormed, pairsFormed, settingsFormed, configOf, unformed, settingsOf};
+ghost use Rattle.emdf_host.specs.Edits.{editedNumber, editedWords};
 use emdf_format::BodyAnswer;
 use emdf_format::BodyError;
+use emdf_format::EditAnswer;
+use emdf_format::EditError;
 use emdf_format::EmdfError;
 use emdf_format::EmdfPayloadBitTrace;
 use emdf_format::EmdfPayloadConfig;
@@ -40,6 +45,9 @@ use openjoc_emdf::PayloadStep;
 
 // A payload's row: 27 numbers.
 const ROW_BYTES: usize = 216;
+
+// A payload's settings: 18 numbers.
+const SETTINGS_BYTES: usize = 144;
 
 // An answer of the bit calls: its number, its value or its two figures, the cursor after it, and the window taken.
 pub struct BitReply {
@@ -205,6 +213,113 @@ pub extern "C" fn emdf_verdict(bytes: &[u8], profile: u32, answer: &mut [u8; 32]
     let values = verdict_words(judged);
     put_words(answer, 0, &values);
     verdict_number(judged)
+}
+
+// The source with another body at place, into the destination, as with the other edits.
+#[no_mangle]
+pub extern "C" fn emdf_edit_body(
+    source: &[u8],
+    place: usize,
+    body: &[u8],
+    destination: &mut [u8],
+    answer: &mut [u8; 16],
+) -> u32
+    ensures { λ r. ⌜ (r ≡ editedNumber (edited (bodyEdit place (now (body .entry))) (now (source .entry)) (now (destination .entry)) .answer)) × (now (answer .exit) ≡ words (editedWords (edited (bodyEdit place (now (body .entry))) (now (source .entry)) (now (destination .entry)) .answer))) × (now (destination .exit) ≡ edited (bodyEdit place (now (body .entry))) (now (source .entry)) (now (destination .entry)) .destination) ⌝ }
+{
+    let edited = emdf_edit::replace_body(source, place, body, destination);
+    put_edited(answer, edited)
+}
+
+// Other settings at place: 144 bytes, as in a row of emdf_read.
+#[no_mangle]
+pub extern "C" fn emdf_edit_settings(
+    source: &[u8],
+    place: usize,
+    settings: &[u8],
+    destination: &mut [u8],
+    answer: &mut [u8; 16],
+) -> u32
+    ensures { λ r. ⌜ (r ≡ editedNumber (edited (settingsEdit place (settingsOf (now (settings .entry)))) (now (source .entry)) (now (destination .entry)) .answer)) × (now (answer .exit) ≡ words (editedWords (edited (settingsEdit place (settingsOf (now (settings .entry)))) (now (source .entry)) (now (destination .entry)) .answer))) × (now (destination .exit) ≡ edited (settingsEdit place (settingsOf (now (settings .entry)))) (now (source .entry)) (now (destination .entry)) .destination) ⌝ }
+{
+    let config = settings_of(settings);
+    let edited = emdf_edit::replace_settings(source, place, config, destination);
+    put_edited(answer, edited)
+}
+
+// Without the payload at place.
+#[no_mangle]
+pub extern "C" fn emdf_edit_drop(
+    source: &[u8],
+    place: usize,
+    destination: &mut [u8],
+    answer: &mut [u8; 16],
+) -> u32
+    ensures { λ r. ⌜ (r ≡ editedNumber (edited (dropEdit place) (now (source .entry)) (now (destination .entry)) .answer)) × (now (answer .exit) ≡ words (editedWords (edited (dropEdit place) (now (source .entry)) (now (destination .entry)) .answer))) × (now (destination .exit) ≡ edited (dropEdit place) (now (source .entry)) (now (destination .entry)) .destination) ⌝ }
+{
+    let edited = emdf_edit::drop_payload(source, place, destination);
+    put_edited(answer, edited)
+}
+
+// A payload more, before place.
+#[no_mangle]
+pub extern "C" fn emdf_edit_insert(
+    source: &[u8],
+    place: usize,
+    id: u64,
+    settings: &[u8],
+    body: &[u8],
+    destination: &mut [u8],
+    answer: &mut [u8; 16],
+) -> u32
+    ensures { λ r. ⌜ (r ≡ editedNumber (edited (insertEdit place id (settingsOf (now (settings .entry))) (now (body .entry))) (now (source .entry)) (now (destination .entry)) .answer)) × (now (answer .exit) ≡ words (editedWords (edited (insertEdit place id (settingsOf (now (settings .entry))) (now (body .entry))) (now (source .entry)) (now (destination .entry)) .answer))) × (now (destination .exit) ≡ edited (insertEdit place id (settingsOf (now (settings .entry))) (now (body .entry))) (now (source .entry)) (now (destination .entry)) .destination) ⌝ }
+{
+    let config = settings_of(settings);
+    let edited = emdf_edit::insert_payload(source, place, id, config, body, destination);
+    put_edited(answer, edited)
+}
+
+// Another key id.
+#[no_mangle]
+pub extern "C" fn emdf_edit_key(
+    source: &[u8],
+    key: u64,
+    destination: &mut [u8],
+    answer: &mut [u8; 16],
+) -> u32
+    ensures { λ r. ⌜ (r ≡ editedNumber (edited (keyEdit key) (now (source .entry)) (now (destination .entry)) .answer)) × (now (answer .exit) ≡ words (editedWords (edited (keyEdit key) (now (source .entry)) (now (destination .entry)) .answer))) × (now (destination .exit) ≡ edited (keyEdit key) (now (source .entry)) (now (destination .entry)) .destination) ⌝ }
+{
+    let edited = emdf_edit::replace_key(source, key, destination);
+    put_edited(answer, edited)
+}
+
+// Other protections.
+#[no_mangle]
+pub extern "C" fn emdf_edit_protection(
+    source: &[u8],
+    primary: &[u8],
+    secondary: &[u8],
+    destination: &mut [u8],
+    answer: &mut [u8; 16],
+) -> u32
+    ensures { λ r. ⌜ (r ≡ editedNumber (edited (protectionEdit (now (primary .entry)) (now (secondary .entry))) (now (source .entry)) (now (destination .entry)) .answer)) × (now (answer .exit) ≡ words (editedWords (edited (protectionEdit (now (primary .entry)) (now (secondary .entry))) (now (source .entry)) (now (destination .entry)) .answer))) × (now (destination .exit) ≡ edited (protectionEdit (now (primary .entry)) (now (secondary .entry))) (now (source .entry)) (now (destination .entry)) .destination) ⌝ }
+{
+    let edited = emdf_edit::replace_protection(source, primary, secondary, destination);
+    put_edited(answer, edited)
+}
+
+// The carrier of a key id and protections, without payloads.
+#[no_mangle]
+pub extern "C" fn emdf_blank(
+    key: u64,
+    primary: &[u8],
+    secondary: &[u8],
+    destination: &mut [u8],
+    answer: &mut [u8; 16],
+) -> u32
+    ensures { λ r. ⌜ (r ≡ editedNumber (blank key (now (primary .entry)) (now (secondary .entry)) (now (destination .entry)) .answer)) × (now (answer .exit) ≡ words (editedWords (blank key (now (primary .entry)) (now (secondary .entry)) (now (destination .entry)) .answer))) × (now (destination .exit) ≡ blank key (now (primary .entry)) (now (secondary .entry)) (now (destination .entry)) .destination) ⌝ }
+{
+    let edited = emdf_edit::blank_carrier(key, primary, secondary, destination);
+    put_edited(answer, edited)
 }
 
 fn field_reply(answer: FieldAnswer) -> BitReply
@@ -482,7 +597,12 @@ fn trace_words(t: EmdfPayloadBitTrace) -> [u64; 8]
 fn put_moved(answer: &mut [u8; 16], moved: BodyAnswer) -> u32
     ensures { λ r. ⌜ (r ≡ moveNumber moved) × (now (answer .exit) ≡ words (moveWords moved)) ⌝ }
 {
-    let f = move_figures(moved);
+    put_two(answer, move_figures(moved))
+}
+
+fn put_two(answer: &mut [u8; 16], f: Figures) -> u32
+    ensures { λ r. ⌜ (r ≡ f .number) × (now (answer .exit) ≡ words (f .first ∷ f .second ∷ [])) ⌝ }
+{
     let values = [f.first, f.second];
     put_words(answer, 0, &values);
     f.number
@@ -505,6 +625,148 @@ fn body_figures(why: BodyError) -> Figures
         BodyError::NoSuchPayload => with_figures(16, 0, 0),
         BodyError::ScratchTooShort { needed } => with_figures(19, needed.0 as u64, 0),
     }
+}
+
+fn put_edited(answer: &mut [u8; 16], edited: EditAnswer) -> u32
+    ensures { λ r. ⌜ (r ≡ editedNumber edited) × (now (answer .exit) ≡ words (editedWords edited)) ⌝ }
+{
+    put_two(answer, edited_figures(edited))
+}
+
+fn edited_figures(edited: EditAnswer) -> Figures
+    ensures { λ r. ⌜ r ≡ figured (editedNumber edited) (editedWords edited) ⌝ }
+{
+    match edited {
+        EditAnswer::Written(length) => with_figures(0, length.0 as u64, 0),
+        EditAnswer::Refused(why) => edit_figures(why),
+    }
+}
+
+fn edit_figures(why: EditError) -> Figures
+    ensures { λ r. ⌜ r ≡ figured (editNumber why) (editFigures why) ⌝ }
+{
+    match why {
+        EditError::Emdf(inner) => emdf_figures(inner),
+        EditError::TrailingData => with_figures(20, 0, 0),
+        EditError::NoSuchPlace => with_figures(16, 0, 0),
+        EditError::NotWritable => with_figures(17, 0, 0),
+        EditError::TooLong => with_figures(18, 0, 0),
+        EditError::DestinationTooShort { needed } => with_figures(19, needed.0 as u64, 0),
+    }
+}
+
+// The settings that bytes are; outside the form, settings that are not writable.
+fn settings_of(s: &[u8]) -> EmdfPayloadConfig
+    ensures { λ r. ⌜ r ≡ settingsOf (now (s .entry)) ⌝ }
+{
+    if s.len() != SETTINGS_BYTES {
+        return unformed_settings();
+    }
+    if !settings_formed(s) {
+        return unformed_settings();
+    }
+    config_of(s)
+}
+
+fn unformed_settings() -> EmdfPayloadConfig
+    ensures { λ r. ⌜ r ≡ unformed ⌝ }
+{
+    EmdfPayloadConfig {
+        sample_offset: Optional::Absent,
+        duration: Optional::Absent,
+        group_id: Optional::Absent,
+        codec_data_present: 2,
+        discard_unknown_payload: 1,
+        payload_frame_aligned: Optional::Absent,
+        create_duplicate: Optional::Absent,
+        remove_duplicate: Optional::Absent,
+        priority: Optional::Absent,
+        processing_allowed: Optional::Absent,
+    }
+}
+
+fn config_of(s: &[u8]) -> EmdfPayloadConfig
+    requires { ⌜ length (now s) ≡ 144 ⌝ }
+    ensures { λ r. ⌜ r ≡ configOf (now (s .entry)) ⌝ }
+{
+    EmdfPayloadConfig {
+        sample_offset: optional_at(s, 0),
+        duration: optional_at(s, 2),
+        group_id: optional_at(s, 4),
+        codec_data_present: number_at(s, 6),
+        discard_unknown_payload: number_at(s, 7),
+        payload_frame_aligned: optional_at(s, 8),
+        create_duplicate: optional_at(s, 10),
+        remove_duplicate: optional_at(s, 12),
+        priority: optional_at(s, 14),
+        processing_allowed: optional_at(s, 16),
+    }
+}
+
+// Whether the eight pairs of a presence and a value are of the form.
+fn settings_formed(s: &[u8]) -> bool
+    requires { ⌜ length (now s) ≡ 144 ⌝ }
+    ensures { λ r. ⌜ r ≡ settingsFormed (now (s .entry)) ⌝ }
+{
+    if !pairs_formed(s, 0, 3) {
+        return false;
+    }
+    pairs_formed(s, 8, 5)
+}
+
+// Whether count pairs are, from number first on.
+fn pairs_formed(s: &[u8], first: usize, count: usize) -> bool
+    requires { ⌜ (length (now s) ≡ 144) × (first + 2 * count ≤ 18) ⌝ }
+    ensures { λ r. ⌜ r ≡ pairsFormed (now (s .entry)) first count ⌝ }
+{
+    let mut i: usize = 0;
+    while i < count {
+        if !pair_formed(s, first + 2 * i) {
+            return false;
+        }
+        i += 1;
+    }
+    true
+}
+
+// A presence of 1, or one of 0 and the value 0.
+fn pair_formed(s: &[u8], k: usize) -> bool
+    requires { ⌜ (length (now s) ≡ 144) × (k < 17) ⌝ }
+    ensures { λ r. ⌜ r ≡ pairFormed (now (s .entry)) k ⌝ }
+{
+    let presence = number_at(s, k);
+    if presence == 0 {
+        return number_at(s, k + 1) == 0;
+    }
+    presence == 1
+}
+
+fn optional_at(s: &[u8], k: usize) -> Optional
+    requires { ⌜ (length (now s) ≡ 144) × (k < 17) ⌝ }
+    ensures { λ r. ⌜ r ≡ optionalAt (now (s .entry)) k ⌝ }
+{
+    if number_at(s, k) == 0 {
+        return Optional::Absent;
+    }
+    Optional::Present(number_at(s, k + 1))
+}
+
+// Number k of some bytes.
+fn number_at(s: &[u8], k: usize) -> u64
+    requires { ⌜ (length (now s) ≡ 144) × (k < 18) ⌝ }
+    ensures { λ r. ⌜ r ≡ numberAt (now (s .entry)) k ⌝ }
+{
+    let start = 64 * k;
+    let cursor = BitCursor {
+        position: start,
+        end: start + 64,
+    };
+    let a = cursor.read_bits(s, 64);
+    let BitsAnswer::Value(value, _) = a else {
+        // The 18 numbers are there.
+        return 0;
+    };
+    value
 }
 
 fn profile_of(number: u32) -> JocValidationProfile

@@ -1,9 +1,5 @@
 use borrow.Author.Needs.{needs}
-use mathlib.Core.Path.{refl, ap, _∙_}
-use mathlib.Core.List.{List, _∷_, append-nil, append-assoc}
-use Prim.Native.Nat.{ℕ}
-use Rattle.emdf_host.specs.Carriers.{configWords}
-use Rattle.emdf_host.proofs.Carriers.{optional-then}
+use Rattle.emdf_host.proofs.Carriers.{config-listed}
 use Rattle.emdf_host.proofs.config_words.Statement.{statement}
 use Rattle.emdf_host.proofs.config_words.Tie as tie
 
@@ -56,7 +52,6 @@ value-or-zero-requires-8 : tie.Need-value-or-zero-requires-8
 value-or-zero-requires-8 c κs = search needs
 
 returns : tie.Need-returns
-unfolding configWords
 returns c =
     let c₇ = c .before .before in
     let c₆ = c₇ .before .before in
@@ -65,17 +60,25 @@ returns c =
     let c₃ = c₄ .before .before in
     let c₂ = c₃ .before .before in
     let c₁ = c₂ .before .before in
-    let t = c₁ .before .before .args .t in
-    simp append-assoc
-    (optional-then _ (c₁ .before .presence .ensures) (c₁ .value-or-zero .ensures)
-    (optional-then _ (c₂ .before .presence2 .ensures) (c₂ .value-or-zero2 .ensures)
-    (optional-then _ (c₃ .before .presence3 .ensures) (c₃ .value-or-zero3 .ensures)
-    (ap (λ (l : List ℕ). t .«codec_data_present» ∷ t .«discard_unknown_payload» ∷ l)
-    (optional-then _ (c₄ .before .presence4 .ensures) (c₄ .value-or-zero4 .ensures)
-    (optional-then _ (c₅ .before .presence5 .ensures) (c₅ .value-or-zero5 .ensures)
-    (optional-then _ (c₆ .before .presence6 .ensures) (c₆ .value-or-zero6 .ensures)
-    (optional-then _ (c₇ .before .presence7 .ensures) (c₇ .value-or-zero7 .ensures)
-    (optional-then _ (c .before .presence8 .ensures) (c .value-or-zero8 .ensures) refl ∙ append-nil _)))))))))
+    rw (
+      c₁ .before .presence .ensures,
+      c₁ .value-or-zero .ensures,
+      c₂ .before .presence2 .ensures,
+      c₂ .value-or-zero2 .ensures,
+      c₃ .before .presence3 .ensures,
+      c₃ .value-or-zero3 .ensures,
+      c₄ .before .presence4 .ensures,
+      c₄ .value-or-zero4 .ensures,
+      c₅ .before .presence5 .ensures,
+      c₅ .value-or-zero5 .ensures,
+      c₆ .before .presence6 .ensures,
+      c₆ .value-or-zero6 .ensures,
+      c₇ .before .presence7 .ensures,
+      c₇ .value-or-zero7 .ensures,
+      c .before .presence8 .ensures,
+      c .value-or-zero8 .ensures,
+    )
+    (config-listed _)
 
 pub config-words-spec : {M : Type 1} → statement M
 config-words-spec =

@@ -1,7 +1,7 @@
 use borrow.Author.Needs.{needs}
 use mathlib.Core.Path.{_∙_}
 use Rattle.emdf_host.specs.Carriers.{moveNumber, moveWords}
-use Rattle.emdf_host.proofs.Carriers.{move-figures}
+use Rattle.emdf_host.proofs.Carriers.{figured-padded}
 use Rattle.emdf_host.proofs.move_figures.Statement.{statement}
 use Rattle.emdf_host.proofs.move_figures.Tie as tie
 
@@ -22,7 +22,8 @@ unfolding moveNumber moveWords
 returns c = rw (c .before .before .moved .given .1) (c .with-figures .ensures)
 
 returns-2 : tie.Need-returns-2
-returns-2 c = rw (c .before .before .moved2 .given .1) (c .body-figures .ensures ∙ move-figures _)
+unfolding moveNumber moveWords
+returns-2 c = rw (c .before .before .moved2 .given .1) (c .body-figures .ensures ∙ figured-padded _ _)
 
 pub move-figures-spec : {M : Type 1} → statement M
 move-figures-spec =
