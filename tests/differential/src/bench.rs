@@ -1,8 +1,12 @@
 //! Measures what the calls on a carrier cost, in the library and in the Rust original.
 
+mod exported;
+
 use differential::carrier::{A, B, NOT_ONE_OF_EACH, ROW};
 use differential::case::ACCEPTED;
 use differential::contents::{Contents, Payload, Settings};
+use differential::facts;
+use differential::plain::{self, Step};
 use differential::profile::{JOC, OAMD, STRICT, WANTED};
 use openjoc_emdf::JocValidationProfile;
 use std::hint::black_box;
@@ -40,17 +44,38 @@ fn main() -> ExitCode {
         "{:<34} {:>8} {:>12} {:>12} {:>8}",
         "carrier", "call", "library", "Rust", "ratio"
     );
-    for subject in subjects() {
+    let subjects = subjects();
+    for subject in &subjects {
         let name = &subject.name;
         let calls = ["read", "classify", "verdict"];
-        let medians = medians(&subject);
+        let medians = medians(readings(subject));
         let (pairs, _) = medians.as_chunks();
         for (call, [library, rust]) in calls.into_iter().zip(pairs) {
             let ratio = library / rust;
             println!("{name:<34} {call:>8} {library:>12.1} {rust:>12.1} {ratio:>8.4}");
         }
     }
+    println!(
+        "\n{:<34} {:>15} {:>12} {:>8}",
+        "carrier", "call", "library", "to 2r+6c"
+    );
+    subjects.iter().for_each(show_edits);
     ExitCode::SUCCESS
+}
+
+/// A line for a copy (c), for a reading (r), and for each edit that the carrier has a place for.
+fn show_edits(subject: &Subject) {
+    let Subject { name, carrier, .. } = subject;
+    let steps = steps(carrier);
+    let medians = medians(edits(carrier, &steps));
+    let [copy, read] = [medians[0], medians[1]];
+    println!("{name:<34} {:>15} {copy:>12.1}", "copy");
+    println!("{name:<34} {:>15} {read:>12.1}", "read");
+    for (step, library) in steps.iter().zip(&medians[2..]) {
+        let call = step.name();
+        let ratio = library / (2.0 * read + 6.0 * copy);
+        println!("{name:<34} {call:>15} {library:>12.1} {ratio:>8.4}");
+    }
 }
 
 fn subjects() -> [Subject; 5] {
@@ -100,34 +125,86 @@ fn payload(id: u64, size: usize, settings: Settings) -> Payload {
     Payload { id, settings, body }
 }
 
-/// Reading, class and verdict, the library first each time, all six in each round.
-fn medians(subject: &Subject) -> [f64; 6] {
+type Calls<'a> = Vec<Box<dyn FnMut() + 'a>>;
+
+/// Reading, class and verdict, the library first each time.
+fn readings(subject: &Subject) -> Calls<'_> {
     let Subject {
         carrier, verdict, ..
     } = subject;
     let mut table = vec![0; ROWS * ROW];
-    let mut calls: [Box<dyn FnMut() + '_>; 6] = [
+    vec![
         Box::new(move || library_read(carrier, &mut table)),
         Box::new(|| rust_read(carrier)),
         Box::new(|| library_classify(carrier)),
         Box::new(|| rust_classify(carrier)),
         Box::new(|| library_verdict(carrier, *verdict)),
         Box::new(|| rust_verdict(carrier, *verdict)),
-    ];
-    let times = calls.each_mut().map(|call| times_for_a_round(call));
-    let mut rounds = [(); 6].map(|()| Vec::new());
-    for _ in 0..ROUNDS {
-        for ((call, times), costs) in calls.iter_mut().zip(times).zip(&mut rounds) {
-            costs.push(cost(call, times));
-        }
-    }
-    rounds.map(|mut costs| {
-        costs.sort_by(f64::total_cmp);
-        costs[ROUNDS / 2]
-    })
+    ]
 }
 
-fn times_for_a_round(call: &mut dyn FnMut()) -> u32 {
+/// A copy of the carrier, its reading, and these edits of it.
+fn edits<'a>(carrier: &'a [u8], steps: &'a [Step]) -> Calls<'a> {
+    let mut table = vec![0; ROWS * ROW];
+    let mut copied = vec![0; carrier.len()];
+    let mut calls: Calls = vec![
+        Box::new(move || black_box(&mut copied[..]).copy_from_slice(black_box(carrier))),
+        Box::new(move || library_read(carrier, &mut table)),
+    ];
+    for step in steps {
+        let mut destination = vec![0; 2 * carrier.len() + 1_000];
+        calls.push(Box::new(move || {
+            library_edit(carrier, step, &mut destination);
+        }));
+    }
+    calls
+}
+
+/// Each edit, in the middle where it has a place; after it nothing keeps its bit of the byte.
+fn steps(carrier: &[u8]) -> Vec<Step> {
+    let contents = facts::reading(carrier).expect("a carrier").contents;
+    let count = contents.payloads.len();
+    let settings = plain::form(&WANTED);
+    let place = count / 2;
+    let mut all = Vec::new();
+    if let Some(payload) = contents.payloads.get(place) {
+        let body = payload.body.iter().map(|byte| !byte).collect();
+        all.push(Step::Body { place, body });
+        let settings = settings.clone();
+        all.push(Step::Settings { place, settings });
+        all.push(Step::Drop { place });
+    }
+    all.push(Step::Insert {
+        place,
+        id: OAMD,
+        settings,
+        body: vec![0xc3; 8],
+    });
+    all.push(Step::Key { key_id: 8 });
+    all.push(Step::Protection {
+        primary: vec![0xa5; 4],
+        secondary: vec![0x5a; 1],
+    });
+    all
+}
+
+/// Nanoseconds for each of the calls, all of them in each round.
+fn medians(mut calls: Calls) -> Vec<f64> {
+    let times: Vec<u32> = calls.iter_mut().map(times_for_a_round).collect();
+    let mut rounds = vec![Vec::new(); calls.len()];
+    for _ in 0..ROUNDS {
+        for ((call, times), costs) in calls.iter_mut().zip(&times).zip(&mut rounds) {
+            costs.push(cost(call, *times));
+        }
+    }
+    let median = |mut costs: Vec<f64>| {
+        costs.sort_by(f64::total_cmp);
+        costs[ROUNDS / 2]
+    };
+    rounds.into_iter().map(median).collect()
+}
+
+fn times_for_a_round<'a>(call: &mut Box<dyn FnMut() + 'a>) -> u32 {
     let mut times = 1;
     while cost(call, times) * f64::from(times) < nanoseconds(ROUND) {
         times *= 2;
@@ -162,6 +239,17 @@ fn library_read(carrier: &[u8], table: &mut [u8]) {
         )
     };
     assert_eq!(number, 0, "a carrier that is not accepted");
+    black_box(answer);
+}
+
+fn library_edit(carrier: &[u8], step: &Step, destination: &mut [u8]) {
+    let carrier = black_box(carrier);
+    let memory = (destination.as_mut_ptr(), destination.len());
+    let mut answer = [0; 16];
+    // SAFETY: the destination is alive, and the answer has its 16 bytes.
+    let number =
+        unsafe { exported::edit(carrier, step, step.slices(), memory, answer.as_mut_ptr()) };
+    assert_eq!(number, 0, "an edit that is not accepted");
     black_box(answer);
 }
 

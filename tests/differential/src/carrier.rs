@@ -16,7 +16,11 @@ pub const TABLE_TOO_SHORT: u32 = 13;
 pub const NOT_ONE_OF_EACH: u32 = 14;
 pub const PROFILE_NOT_MET: u32 = 15;
 pub const NO_SUCH_PLACE: u32 = 16;
+pub const NOT_WRITABLE: u32 = 17;
+pub const TOO_LONG: u32 = 18;
 pub const SCRATCH_TOO_SHORT: u32 = 19;
+pub const DESTINATION_TOO_SHORT: u32 = 19;
+pub const BYTES_AFTER: u32 = 20;
 
 pub const SYNC_WORD: u16 = 0x5838;
 
@@ -38,7 +42,7 @@ pub const B: [u8; 11] = [
 const LEAST_PAYLOAD: usize = 19;
 
 const SUMMARY_WORDS: usize = 9;
-const SETTINGS_WORDS: usize = 18;
+pub const SETTINGS_WORDS: usize = 18;
 pub const ROW_WORDS: usize = 27;
 
 /// The bytes of one row of a table.
@@ -125,10 +129,13 @@ impl Reply {
     /// The reply as it stands in a report on what was asked.
     #[must_use]
     pub fn shown(&self, ask: Ask) -> String {
-        let words: Vec<_> = self.words[..ask.words()]
-            .iter()
-            .map(u64::to_string)
-            .collect();
+        self.shown_words(ask.words())
+    }
+
+    /// The same, for an answer of so many numbers.
+    #[must_use]
+    pub fn shown_words(&self, words: usize) -> String {
+        let words: Vec<_> = self.words[..words].iter().map(u64::to_string).collect();
         format!("number {}, answer {}", self.number, words.join(" "))
     }
 }
@@ -225,7 +232,8 @@ fn row(payload: &Payload, spans: &Spans) -> [u64; ROW_WORDS] {
 }
 
 /// Presence and value of each setting in 01's order, the two flags without a presence.
-fn settings(settings: &Settings) -> [u64; SETTINGS_WORDS] {
+#[must_use]
+pub fn settings(settings: &Settings) -> [u64; SETTINGS_WORDS] {
     let pair = |setting: Option<u64>| [u64::from(setting.is_some()), setting.unwrap_or(0)];
     let bit = |setting: Option<bool>| pair(setting.map(u64::from));
     let [offset, duration, group_id] =

@@ -264,7 +264,7 @@ pub fn edges(random: &mut Random) -> Vec<Contents> {
 }
 
 /// One combination of settings, with each edge of each number that stands in it.
-fn edge_settings(shape: usize, random: &mut Random) -> Vec<Settings> {
+pub fn edge_settings(shape: usize, random: &mut Random) -> Vec<Settings> {
     let settings = shapes::settings(shape, &Numbers::draw(random));
     let edges = |setting: Option<u64>, edges: &[u64]| match setting {
         Some(_) => edges.iter().copied().map(Some).collect(),

@@ -234,7 +234,16 @@ impl fmt::Display for Described<'_> {
 ///
 /// Where the formatter takes no more.
 pub fn write_bytes(formatter: &mut fmt::Formatter<'_>, bytes: &[u8]) -> fmt::Result {
-    write!(formatter, "  bytes     {} in all:", bytes.len())?;
+    write_slice(formatter, "bytes", bytes)
+}
+
+/// A report's line with a slice of this name.
+///
+/// # Errors
+///
+/// Where the formatter takes no more.
+pub fn write_slice(formatter: &mut fmt::Formatter<'_>, name: &str, bytes: &[u8]) -> fmt::Result {
+    write!(formatter, "  {name:<9} {} in all:", bytes.len())?;
     for run in bytes.chunk_by(|one, next| one == next) {
         write_run(formatter, run)?;
     }

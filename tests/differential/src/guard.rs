@@ -85,6 +85,38 @@ impl Drop for Input {
     }
 }
 
+/// A place for inputs of any length; long ones have memory of their own.
+pub struct Slot {
+    place: Place,
+    long: Option<Input>,
+}
+
+impl Slot {
+    #[must_use]
+    pub fn new() -> Self {
+        Self {
+            place: Place::new(),
+            long: None,
+        }
+    }
+
+    /// Replaces the input that was there.
+    pub fn put(&mut self, bytes: &[u8]) {
+        self.long = (bytes.len() > ROOM).then(|| Input::new(bytes));
+        if self.long.is_none() {
+            self.place.put(bytes);
+        }
+    }
+
+    #[must_use]
+    pub fn bytes(&self) -> &[u8] {
+        match &self.long {
+            Some(input) => input.bytes(),
+            None => self.place.bytes(),
+        }
+    }
+}
+
 /// A place for inputs in turn; its memory is there twice, so that filling it asks no system call.
 pub struct Place {
     writable: *mut u8,

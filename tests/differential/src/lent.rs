@@ -36,6 +36,12 @@ impl Lent {
         self.bytes.as_mut_ptr().wrapping_add(MARGIN)
     }
 
+    /// Writes the first bytes of what is lent, as far as it goes.
+    pub fn write(&mut self, bytes: &[u8]) {
+        let written = bytes.len().min(self.length);
+        self.bytes[MARGIN..MARGIN + written].copy_from_slice(&bytes[..written]);
+    }
+
     /// Only the first bytes were written to, and they are these.
     #[must_use]
     pub fn holds(&self, written: &[u8]) -> bool {

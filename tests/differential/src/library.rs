@@ -1,11 +1,13 @@
 //! The library's exported calls, each behind a safe function that checks what it wrote.
 
 use crate::crash;
+use crate::exported;
 use crate::frame::Frame;
 use crate::guard::Input;
 use crate::lent::Lent;
 use differential::carrier::{Ask, Asked, Reply};
 use differential::case::{Answer, Call, Described, Request};
+use differential::plain::Edit;
 
 extern "C" {
     fn emdf_bit_cursor(bytes: *const u8, length: usize, answer: *mut u8) -> u32;
@@ -158,6 +160,21 @@ pub fn reply(bytes: &[u8], ask: Ask, lent: &mut Lent) -> Replied {
                 replied::<32, 4>(|answer| emdf_verdict(start, length, profile, answer))
             }
         }
+    })
+}
+
+/// Makes one edit; the step's slices are handed over from where these lie.
+#[must_use]
+pub fn edit(edit: &Edit, slices: [&[u8]; 2], lent: &mut Lent) -> Replied {
+    let Edit {
+        source,
+        step,
+        destination,
+    } = *edit;
+    let memory = (lent.lend(destination), destination);
+    // SAFETY: all slices and the destination are alive, and the answer has its 16 bytes.
+    crash::during(edit, || unsafe {
+        replied::<16, 2>(|answer| exported::edit(source, step, slices, memory, answer))
     })
 }
 

@@ -4,7 +4,11 @@ mod bits;
 mod bodies;
 mod carriers;
 mod crash;
+mod edit_lists;
+mod editing;
+mod edits;
 mod examine;
+mod exported;
 mod fields;
 mod frame;
 mod guard;
@@ -14,6 +18,7 @@ mod library;
 mod model;
 mod reached;
 mod report;
+mod self_check;
 mod shrink;
 mod verdicts;
 
@@ -23,12 +28,14 @@ use report::{Group, Tally};
 use std::process::ExitCode;
 
 /// Each part's groups, run in this order.
-const PARTS: [&[Group]; 5] = [
+const PARTS: [&[Group]; 7] = [
     &bits::GROUPS,
     &fields::GROUPS,
     &carriers::GROUPS,
     &bodies::GROUPS,
     &verdicts::GROUPS,
+    &edits::GROUPS,
+    &edit_lists::GROUPS,
 ];
 
 fn main() -> ExitCode {
@@ -40,6 +47,9 @@ fn main() -> ExitCode {
         }
     };
     crash::watch();
+    if options.self_check {
+        return self_check::run(&PARTS[5..], &options);
+    }
     let mut failed = Vec::new();
     for (group, stream) in PARTS.into_iter().flatten().zip(0..) {
         // A stream of its own, so that a group's cases don't hang on the others.

@@ -1,4 +1,4 @@
-//! The command line: how long a run is, and its seed.
+//! The command line: how long a run is, its seed, and whether the run is of the driver itself.
 
 const DEFAULT_SEED: u64 = 0x5838;
 
@@ -23,6 +23,7 @@ impl Length {
 pub struct Options {
     pub length: Length,
     pub seed: u64,
+    pub self_check: bool,
 }
 
 impl Options {
@@ -33,11 +34,13 @@ impl Options {
         let mut options = Self {
             length: Length::Short,
             seed: DEFAULT_SEED,
+            self_check: false,
         };
         while let Some(argument) = arguments.next() {
             match argument.as_str() {
                 "--short" => options.length = Length::Short,
                 "--long" => options.length = Length::Long,
+                "--self-check" => options.self_check = true,
                 "--seed" => {
                     let seed = arguments.next().ok_or("--seed wants a number")?;
                     options.seed = seed

@@ -7,8 +7,8 @@ use crate::random::Random;
 pub const MOST_OFFSET: u64 = 2_047;
 pub const MOST_DURATION: u64 = 4_196_351;
 pub const MOST_GROUP_ID: u64 = 6_148_914_691_236_517_203;
-const MOST_PRIORITY: u64 = 31;
-const MOST_PROCESSING: u64 = 3;
+pub const MOST_PRIORITY: u64 = 31;
+pub const MOST_PROCESSING: u64 = 3;
 
 /// On both sides of each change in the number of groups up to three, and at both ends.
 pub const IDS: [u64; 14] = [
@@ -188,7 +188,7 @@ pub fn fill(contents: &mut Contents, declared: usize) {
 }
 
 /// An edge in half of the cases, else a number of any length in bits.
-fn edge_or_any(random: &mut Random, edges: &[u64], most: u64) -> u64 {
+pub fn edge_or_any(random: &mut Random, edges: &[u64], most: u64) -> u64 {
     if random.one_in(2) {
         return random.pick(edges);
     }

@@ -4,22 +4,29 @@ use differential::carrier::{Ask, HEADER};
 use differential::case::{Cursor, Request};
 use differential::contents::{Contents, Settings};
 use differential::facts;
+use differential::plain::{self, Edit, Step};
 use std::ops::Range;
 use std::time::{Duration, Instant};
 
 /// Longer than a small case needs, short enough to wait for on a long slice.
-const PATIENCE: Duration = Duration::from_secs(20);
+pub const PATIENCE: Duration = Duration::from_secs(20);
 
 /// Cases that are smaller in one respect and larger in none.
 pub type Smaller<'a, T> = Box<dyn Iterator<Item = T> + 'a>;
 
 /// Steps from a failing case to a smaller one that fails, until there is none.
-pub fn smallest<T>(
+pub fn smallest<T>(failing: T, smaller: fn(&T) -> Smaller<'_, T>, fails: impl Fn(&T) -> bool) -> T {
+    smallest_within(PATIENCE, failing, smaller, fails)
+}
+
+/// The same, for as long as this.
+pub fn smallest_within<T>(
+    patience: Duration,
     mut failing: T,
     smaller: fn(&T) -> Smaller<'_, T>,
     fails: impl Fn(&T) -> bool,
 ) -> T {
-    let end = Instant::now() + PATIENCE;
+    let end = Instant::now() + patience;
     loop {
         let next = smaller(&failing)
             .take_while(|_| Instant::now() < end)
@@ -163,13 +170,7 @@ pub struct CarrierCase {
 /// Less in the carrier first, then shorter ones, fewer ones in the bytes, less lent, and a smaller number.
 pub fn smaller_carriers(case: &CarrierCase) -> Smaller<'_, CarrierCase> {
     let bytes = &case.bytes;
-    let ends = amounts(bytes.len()).map(|dropped| bytes[..bytes.len() - dropped].to_vec());
-    let shorter = with_less_in_it(bytes)
-        .chain(ends)
-        .chain(without_runs(bytes))
-        .chain(zeroed(bytes))
-        .chain(cleared(bytes))
-        .map(|bytes| CarrierCase { bytes, ..*case });
+    let shorter = smaller_bytes(bytes).map(|bytes| CarrierCase { bytes, ..*case });
     let lent = case.ask.lent();
     let asked = amounts(lent).filter_map(move |less| case.ask.with_lent(lent - less));
     let less = asked.map(|ask| CarrierCase {
@@ -184,6 +185,19 @@ pub fn smaller_carriers(case: &CarrierCase) -> Smaller<'_, CarrierCase> {
     )
 }
 
+/// A carrier with less in it, shorter, or with fewer ones.
+fn smaller_bytes(bytes: &[u8]) -> impl Iterator<Item = Vec<u8>> + '_ {
+    with_less_in_it(bytes)
+        .chain(cut(bytes))
+        .chain(without_runs(bytes))
+        .chain(zeroed(bytes))
+        .chain(cleared(bytes))
+}
+
+fn cut(bytes: &[u8]) -> impl Iterator<Item = Vec<u8>> + '_ {
+    amounts(bytes.len()).map(|dropped| bytes[..bytes.len() - dropped].to_vec())
+}
+
 /// The smallest number that is compat, for a larger one.
 fn with_a_smaller_profile(case: &CarrierCase) -> Option<CarrierCase> {
     let is_larger = matches!(case.ask, Ask::Verdict { profile } if profile > 1);
@@ -196,21 +210,27 @@ fn with_a_smaller_profile(case: &CarrierCase) -> Option<CarrierCase> {
 /// The body that is asked for, with fewer payloads before it.
 fn with_an_earlier_place(case: &CarrierCase) -> impl Iterator<Item = CarrierCase> + '_ {
     let asked = match case.ask {
-        Ask::MoveBody { place, scratch } => facts::reading(&case.bytes)
-            .ok()
-            .filter(|found| place < found.contents.payloads.len())
-            .map(|found| (found.contents, place, scratch)),
+        Ask::MoveBody { place, scratch } => Some((place, scratch)),
         _ => None,
     };
-    asked.into_iter().flat_map(|(contents, place, scratch)| {
+    asked.into_iter().flat_map(|(place, scratch)| {
+        let fewer = with_fewer_before(&case.bytes, place);
+        fewer.map(move |(bytes, place)| CarrierCase {
+            bytes,
+            ask: Ask::MoveBody { place, scratch },
+        })
+    })
+}
+
+/// A carrier without some of the payloads before a place that it has, and where that is then.
+fn with_fewer_before(bytes: &[u8], place: usize) -> impl Iterator<Item = (Vec<u8>, usize)> {
+    let found = facts::reading(bytes).ok();
+    let found = found.filter(|found| place < found.contents.payloads.len());
+    found.into_iter().flat_map(move |found| {
         amounts(place).map(move |dropped| {
-            let mut smaller = contents.clone();
+            let mut smaller = found.contents.clone();
             smaller.payloads.drain(..dropped);
-            let place = place - dropped;
-            CarrierCase {
-                bytes: smaller.written().0,
-                ask: Ask::MoveBody { place, scratch },
-            }
+            (smaller.written().0, place - dropped)
         })
     })
 }
@@ -280,6 +300,144 @@ fn without_runs(bytes: &[u8]) -> impl Iterator<Item = Vec<u8>> + '_ {
         bytes[2..HEADER].copy_from_slice(&declared.to_be_bytes());
         Some(bytes)
     })
+}
+
+/// A step on a source, and the length of its destination.
+#[derive(Clone)]
+pub struct EditCase {
+    pub source: Vec<u8>,
+    pub step: Step,
+    pub destination: usize,
+}
+
+impl EditCase {
+    #[must_use]
+    pub fn edit(&self) -> Edit<'_> {
+        Edit {
+            source: &self.source,
+            step: &self.step,
+            destination: self.destination,
+        }
+    }
+
+    /// How long a destination has to be for the edit to be accepted.
+    fn needed(&self) -> Option<usize> {
+        let endless = Edit {
+            destination: usize::MAX,
+            ..self.edit()
+        };
+        let after = endless.after(&facts::reading(&self.source));
+        after.ok().map(|contents| plain::length(&contents))
+    }
+}
+
+/// Less in the source first, then in the arguments, then a shorter destination.
+pub fn smaller_edits(case: &EditCase) -> Smaller<'_, EditCase> {
+    let with_source = |source| EditCase {
+        source,
+        ..case.clone()
+    };
+    let steps = smaller_steps(&case.step).map(|step| EditCase {
+        step,
+        ..case.clone()
+    });
+    let needed = case.needed();
+    let smaller = with_an_earlier_step(case)
+        .chain(smaller_bytes(&case.source).map(with_source))
+        .chain(steps)
+        .flat_map(move |smaller| [at_the_same_distance(needed, &smaller), Some(smaller)]);
+    let shorter = amounts(case.destination).map(|less| EditCase {
+        destination: case.destination - less,
+        ..case.clone()
+    });
+    Box::new(smaller.flatten().chain(shorter))
+}
+
+/// A destination that is as much too long or too short as when so much was needed.
+fn at_the_same_distance(needed: Option<usize>, smaller: &EditCase) -> Option<EditCase> {
+    let less = needed?.checked_sub(smaller.needed()?)?;
+    Some(EditCase {
+        destination: smaller.destination.checked_sub(less)?,
+        ..smaller.clone()
+    })
+}
+
+/// The same step with fewer payloads before its place.
+fn with_an_earlier_step(case: &EditCase) -> impl Iterator<Item = EditCase> + '_ {
+    let place = case.step.place(0).map(|(place, _)| place);
+    place.into_iter().flat_map(|place| {
+        let fewer = with_fewer_before(&case.source, place);
+        fewer.map(|(source, place)| EditCase {
+            source,
+            step: at_place(&case.step, place),
+            destination: case.destination,
+        })
+    })
+}
+
+/// Earlier places, smaller numbers, settings of the fewest bits, and shorter slices of fewer ones.
+fn smaller_steps(step: &Step) -> impl Iterator<Item = Step> + '_ {
+    let place = step.place(0).map_or(0, |(place, _)| place);
+    let places = amounts(place).map(move |less| at_place(step, place - less));
+    let number = number(step);
+    let numbers = amounts(number as usize).map(move |less| with_number(step, number - less as u64));
+    let [first, second] = step.slices();
+    let has_settings = matches!(step, Step::Settings { .. } | Step::Insert { .. });
+    let least = has_settings.then(|| plain::form(&Settings::LEAST));
+    let least = least.filter(|least| least != first);
+    let firsts = least.into_iter().chain(cut(first)).chain(zeroed(first));
+    let seconds = cut(second).chain(zeroed(second));
+    places
+        .chain(numbers)
+        .chain(firsts.map(move |first| with_slices(step, [first, second.to_vec()])))
+        .chain(seconds.map(move |second| with_slices(step, [first.to_vec(), second])))
+}
+
+fn at_place(step: &Step, to: usize) -> Step {
+    let mut moved = step.clone();
+    if let Step::Body { place, .. }
+    | Step::Settings { place, .. }
+    | Step::Drop { place }
+    | Step::Insert { place, .. } = &mut moved
+    {
+        *place = to;
+    }
+    moved
+}
+
+/// The id or key id that is named.
+fn number(step: &Step) -> u64 {
+    match *step {
+        Step::Insert { id, .. } => id,
+        Step::Key { key_id } | Step::Blank { key_id, .. } => key_id,
+        _ => 0,
+    }
+}
+
+fn with_number(step: &Step, number: u64) -> Step {
+    let mut smaller = step.clone();
+    if let Step::Insert { id: old, .. }
+    | Step::Key { key_id: old }
+    | Step::Blank { key_id: old, .. } = &mut smaller
+    {
+        *old = number;
+    }
+    smaller
+}
+
+fn with_slices(step: &Step, [first, second]: [Vec<u8>; 2]) -> Step {
+    let mut smaller = step.clone();
+    match &mut smaller {
+        Step::Body { body, .. } => *body = first,
+        Step::Settings { settings, .. } => *settings = first,
+        Step::Insert { settings, body, .. } => (*settings, *body) = (first, second),
+        Step::Protection { primary, secondary }
+        | Step::Blank {
+            primary, secondary, ..
+        } => (*primary, *secondary) = (first, second),
+        Step::Drop { .. } | Step::Key { .. } => {}
+    }
+    smaller
 }
 
 /// The parts of a range, of each size that is tried.
