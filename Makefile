@@ -1,17 +1,24 @@
-# make test        every test: the comparison with the Rust original, emdfcheck's and jocverdict's runs, then the proofs, must-fail edits and stored runs
+# make test        every test: the comparison with the Rust original, the runs of emdfcheck, jocverdict and the panel, then the proofs, must-fail edits and stored runs
 # make emdfcheck   proves and builds target/bin/emdfcheck
 # make jocverdict  proves and builds target/bin/jocverdict
 # make bitfields   proves and builds target/bin/bitfields
-# make lib         proves and builds target/staticlib/libemdf_host.a, for include/emdf.h
+# make lib         proves and builds $(LIBRARY), for include/emdf.h
+# make panel       builds target/bin/panel, an example of a host in C, on the proved library
+# make install     puts header, library, emdf.pc and NOTICE under PREFIX
 # make long        the comparison with the Rust original at its long length
-.PHONY: test emdfcheck jocverdict bitfields lib long
+.PHONY: test emdfcheck jocverdict bitfields lib panel install long
 # Two runs of rt would write the same target/.
 .NOTPARALLEL:
 
-test: lib emdfcheck jocverdict
+LIBRARY = target/staticlib/libemdf_host.a
+CFLAGS = -O2
+PREFIX = /usr/local
+
+test: lib emdfcheck jocverdict panel
 	@tests/differential/run --short
 	@tests/emdfcheck/run
 	@tests/jocverdict/run
+	@tests/panel/run
 	@rt ci
 
 emdfcheck:
@@ -26,6 +33,21 @@ bitfields:
 lib:
 	@mkdir -p target
 	@rt staticlib emdf_host >target/lib.log 2>&1 || { cat target/lib.log; exit 1; }
+
+panel: lib
+	@mkdir -p target/bin
+	@$(CC) $(CFLAGS) -std=c99 -Wall -Wextra -pedantic -Iinclude examples/panel/panel.c $(LIBRARY) -o target/bin/panel
+
+# The library is installed as it was last built, so that no proof runs as root.
+install: $(LIBRARY)
+	@mkdir -p "$(DESTDIR)$(PREFIX)/include" "$(DESTDIR)$(PREFIX)/lib/pkgconfig" "$(DESTDIR)$(PREFIX)/share/doc/emdf"
+	@cp include/emdf.h "$(DESTDIR)$(PREFIX)/include/emdf.h"
+	@cp $(LIBRARY) "$(DESTDIR)$(PREFIX)/lib/libemdf.a"
+	@sed 's|@PREFIX@|$(PREFIX)|' emdf.pc.in >"$(DESTDIR)$(PREFIX)/lib/pkgconfig/emdf.pc"
+	@cp NOTICE "$(DESTDIR)$(PREFIX)/share/doc/emdf/NOTICE"
+
+$(LIBRARY):
+	@$(MAKE) lib
 
 long: lib
 	@tests/differential/run --long

@@ -1,0 +1,439 @@
+/* A commissioning panel in a terminal: loads a file, shows the EMDF carrier in it and gives a verdict on it.
+   One command a line on standard input; HELP lists them. Every answer of the library comes through emdf.h. */
+#define _POSIX_C_SOURCE 200112L /* for isatty and strcasecmp */
+
+#include <errno.h>
+#include <inttypes.h>
+#include <stdio.h>
+#include <string.h>
+#include <strings.h>
+#include <unistd.h>
+
+#include "emdf.h"
+
+enum {
+    /* A carrier is 4 bytes and then the declared ones, which a number of 16 bits counts. */
+    DECLARED_MOST = 65535,
+    CARRIER_MOST = 4 + DECLARED_MOST,
+
+    /* What every carrier has besides: version 2, key id 3, end mark 5, protection codes 4, primary protection 8. */
+    FRAME_BITS_LEAST = 2 + 3 + 5 + 4 + 8,
+    /* The smallest payload: id 5, the settings' five flags, size 9, and no body. */
+    PAYLOAD_BITS_LEAST = 5 + 5 + 9,
+    /* 27,592. So a table of this many rows, some 6 MB, is long enough for every carrier. */
+    PAYLOADS_MOST = (8 * DECLARED_MOST - FRAME_BITS_LEAST) / PAYLOAD_BITS_LEAST,
+
+    /* Linux takes paths of up to 4,095 bytes; a key and blanks stand before them. */
+    LINE_MOST = 4095 + 32,
+
+    BODY_BYTES_SHOWN = 16,
+    RULER_MARKS = 64,
+    PROTECTION_FIELD = 16 /* bytes that a protection takes in an answer */
+};
+
+struct panel {
+    uint8_t file[CARRIER_MOST + 1]; /* the byte more tells a file that is too long */
+    size_t length;
+    int is_loaded, is_ended;
+    uint32_t profile;
+    const char *argument; /* what stands after the key in the line */
+};
+
+/* Rows are filled by emdf_read alone, and read only as far as it filled them. */
+static uint8_t table[(size_t)PAYLOADS_MOST * EMDF_ROW];
+
+/* A body lies in the declared bytes, so no body is longer. */
+static uint8_t scratch[DECLARED_MOST];
+
+/* ---- refusals */
+
+struct refusal {
+    uint32_t number;
+    const char *words;
+    const char *first; /* the figures' names; NULL where there is none */
+    const char *second;
+};
+
+static const struct refusal REFUSALS[] = {
+    {EMDF_TRUNCATED_CONTAINER, "too few bytes", "needed", "available"},
+    {EMDF_INVALID_SYNCWORD, "no sync word", "actual", NULL},
+    {EMDF_END_OF_INPUT, "too few bits for a field", "requested", "remaining"},
+    {EMDF_INVALID_WIDTH, "a width above 64", "width", NULL},
+    {EMDF_INVALID_VARIABLE_BITS, "no variable field has this width and limit", "width", "limit"},
+    {EMDF_VARIABLE_BITS_GROUP_LIMIT, "a variable field has too many groups", "width", "limit"},
+    {EMDF_VALUE_OVERFLOW, "a field is above 2^64 - 1", NULL, NULL},
+    {EMDF_UNSUPPORTED_VERSION, "a version other than 0", "version", NULL},
+    {EMDF_NONZERO_RESERVED_DATA, "reserved bits are not zero", NULL, NULL},
+    {EMDF_RESERVED_PRIMARY_PROTECTION_LENGTH, "the primary protection has the reserved length", NULL, NULL},
+    {EMDF_EXCESS_PADDING, "more than 7 bits after the protection", "bits", NULL},
+    {EMDF_NONZERO_PADDING, "padding is not zero", NULL, NULL},
+    {EMDF_TABLE_TOO_SHORT, "the table has too few rows", "payloads", NULL},
+    {EMDF_PAYLOAD_COUNT, "not one OAMD and one JOC payload", "oamd", "joc"},
+    {EMDF_CONFIGURATION, "the profile is not met", "marks", "deviations"},
+    {EMDF_NO_SUCH_PAYLOAD, "no payload at this place", NULL, NULL},
+    {EMDF_NOT_WRITABLE, "the contents cannot be written", NULL, NULL},
+    {EMDF_TOO_LONG, "more than 65535 bytes to declare", NULL, NULL},
+    {EMDF_SCRATCH_TOO_SHORT, "the destination is too short", "needed", NULL},
+    {EMDF_TRAILING_BYTES, "bytes after the container", NULL, NULL},
+};
+
+static const struct refusal *find_refusal(uint32_t number)
+{
+    static const struct refusal unlisted = {0, "a refusal that this panel does not know", "first", "second"};
+    size_t i;
+    for (i = 0; i < sizeof REFUSALS / sizeof *REFUSALS; i++)
+        if (REFUSALS[i].number == number)
+            return &REFUSALS[i];
+    return &unlisted;
+}
+
+static void print_refusal(uint32_t number, uint64_t first, uint64_t second)
+{
+    const struct refusal *refusal = find_refusal(number);
+    printf("number=%" PRIu32 " words=\"%s\"", number, refusal->words);
+    if (refusal->first)
+        printf(" %s=%" PRIu64, refusal->first, first);
+    if (refusal->second)
+        printf(" %s=%" PRIu64, refusal->second, second);
+    putchar('\n');
+}
+
+/* ---- INPUT */
+
+/* nine is emdf_read's answer, or emdf_classify's after the class. */
+static void print_reading(const char *title, const uint8_t *nine)
+{
+    printf("%s bytes=%" PRIu64 " key=%" PRIu64 " payloads=%" PRIu64, title, emdf_word(nine, EMDF_BYTES_CONSUMED),
+           emdf_word(nine, EMDF_KEY_ID), emdf_word(nine, EMDF_PAYLOADS));
+}
+
+static void print_class(const struct panel *panel)
+{
+    uint8_t answer[EMDF_CLASS_ANSWER];
+    uint32_t number = emdf_classify(panel->file, panel->length, answer);
+    switch (emdf_word(answer, EMDF_CLASS)) {
+    case EMDF_NON_EMDF:
+        puts("class non-emdf");
+        break;
+    case EMDF_PARSED:
+        print_reading("class parsed", answer + 8 * EMDF_CLASS_READING);
+        putchar('\n');
+        break;
+    case EMDF_TRAILING_DATA:
+        printf("class trailing-data container=%" PRIu64 " file=%" PRIu64 "\n",
+               emdf_word(answer, EMDF_CLASS_CONTAINER_BYTES), emdf_word(answer, EMDF_CLASS_CARRIER_BYTES));
+        break;
+    default:
+        printf("class malformed ");
+        print_refusal(number, emdf_word(answer, EMDF_CLASS_FIRST_FIGURE), emdf_word(answer, EMDF_CLASS_SECOND_FIGURE));
+    }
+}
+
+/* NULL where the whole file was read, else why it wasn't. */
+static const char *load_file(struct panel *panel)
+{
+    const char *failure = NULL;
+    FILE *file = fopen(panel->argument, "rb");
+    if (!file)
+        return strerror(errno);
+    panel->length = fread(panel->file, 1, sizeof panel->file, file);
+    if (ferror(file))
+        failure = strerror(errno);
+    else if (panel->length > CARRIER_MOST)
+        failure = "longer than 65539 bytes, which no carrier is";
+    fclose(file);
+    return failure;
+}
+
+static void press_input(struct panel *panel)
+{
+    const char *failure = load_file(panel);
+    /* After a failure the file before it is gone too, so that no verdict is taken for that of this one. */
+    panel->is_loaded = !failure;
+    if (failure) {
+        printf("error input: %s; nothing is loaded\n", failure);
+        return;
+    }
+    printf("input bytes=%lu\n", (unsigned long)panel->length);
+    print_class(panel);
+}
+
+/* ---- STREAM */
+
+enum { ALWAYS_PRESENT = 0 }; /* no presence stands at a row's number 0: it is the id */
+
+struct setting {
+    const char *name;
+    size_t presence, value; /* where they stand in a row */
+};
+
+static const struct setting SETTINGS[] = {
+    {"sample_offset", EMDF_ROW_HAS_SAMPLE_OFFSET, EMDF_ROW_SAMPLE_OFFSET},
+    {"duration", EMDF_ROW_HAS_DURATION, EMDF_ROW_DURATION},
+    {"group_id", EMDF_ROW_HAS_GROUP_ID, EMDF_ROW_GROUP_ID},
+    {"codec_data_present", ALWAYS_PRESENT, EMDF_ROW_CODEC_DATA_PRESENT},
+    {"discard_unknown_payload", ALWAYS_PRESENT, EMDF_ROW_DISCARD_UNKNOWN_PAYLOAD},
+    {"payload_frame_aligned", EMDF_ROW_HAS_PAYLOAD_FRAME_ALIGNED, EMDF_ROW_PAYLOAD_FRAME_ALIGNED},
+    {"create_duplicate", EMDF_ROW_HAS_CREATE_DUPLICATE, EMDF_ROW_CREATE_DUPLICATE},
+    {"remove_duplicate", EMDF_ROW_HAS_REMOVE_DUPLICATE, EMDF_ROW_REMOVE_DUPLICATE},
+    {"priority", EMDF_ROW_HAS_PRIORITY, EMDF_ROW_PRIORITY},
+    {"processing_allowed", EMDF_ROW_HAS_PROCESSING_ALLOWED, EMDF_ROW_PROCESSING_ALLOWED},
+};
+
+struct part {
+    const char *name;
+    char mark; /* in the ruler */
+    size_t start, end; /* where they stand in a row */
+};
+
+static const struct part PARTS[] = {
+    {"id", 'i', EMDF_ROW_ID_START_BIT, EMDF_ROW_ID_END_BIT},
+    {"settings", 's', EMDF_ROW_CONFIG_START_BIT, EMDF_ROW_CONFIG_END_BIT},
+    {"size", 'z', EMDF_ROW_SIZE_START_BIT, EMDF_ROW_SIZE_END_BIT},
+    {"body", 'b', EMDF_ROW_BODY_START_BIT, EMDF_ROW_BODY_END_BIT},
+};
+
+enum { PART_COUNT = sizeof PARTS / sizeof *PARTS };
+
+static void print_bytes(const uint8_t *bytes, size_t length)
+{
+    size_t i;
+    if (!length)
+        printf("none");
+    for (i = 0; i < length; i++)
+        printf("%02x", (unsigned)bytes[i]);
+}
+
+/* A protection's bytes are the last ones of its field in the answer. */
+static void print_protection(const char *name, const uint8_t *answer, size_t length_place, size_t field_place)
+{
+    size_t length = (size_t)emdf_word(answer, length_place);
+    printf(" %s=", name);
+    print_bytes(answer + 8 * field_place + PROTECTION_FIELD - length, length);
+}
+
+static void print_settings(const uint8_t *row)
+{
+    size_t i;
+    printf("  settings");
+    for (i = 0; i < sizeof SETTINGS / sizeof *SETTINGS; i++) {
+        const struct setting *setting = &SETTINGS[i];
+        if (setting->presence == ALWAYS_PRESENT || emdf_word(row, setting->presence))
+            printf(" %s=%" PRIu64, setting->name, emdf_word(row, setting->value));
+    }
+    putchar('\n');
+}
+
+static void print_spans(const uint8_t *row)
+{
+    size_t i;
+    printf("  spans");
+    for (i = 0; i < PART_COUNT; i++)
+        printf(" %s=%" PRIu64 "..%" PRIu64, PARTS[i].name, emdf_word(row, PARTS[i].start),
+               emdf_word(row, PARTS[i].end));
+    putchar('\n');
+}
+
+/* One scale serves the whole payload. Bits that don't fill a mark get one, so that no part vanishes. */
+static void print_ruler(const uint8_t *row)
+{
+    uint64_t start = emdf_word(row, EMDF_ROW_ID_START_BIT), end = emdf_word(row, EMDF_ROW_BODY_END_BIT), bit;
+    uint64_t bits_a_mark = (end - start + RULER_MARKS - 1) / RULER_MARKS;
+    size_t i;
+    printf("  ruler ");
+    for (i = 0; i < PART_COUNT; i++) {
+        printf("%" PRIu64 "|", emdf_word(row, PARTS[i].start));
+        for (bit = emdf_word(row, PARTS[i].start); bit < emdf_word(row, PARTS[i].end); bit += bits_a_mark)
+            putchar(PARTS[i].mark);
+        putchar('|');
+    }
+    printf("%" PRIu64 " bits_a_mark=%" PRIu64 "\n", end, bits_a_mark);
+}
+
+/* An empty body isn't asked for: each call reads the whole carrier again. */
+static void print_body(const struct panel *panel, size_t place, const uint8_t *row)
+{
+    uint8_t answer[EMDF_MOVE_ANSWER];
+    uint64_t start = emdf_word(row, EMDF_ROW_BODY_START_BIT);
+    uint64_t length = (emdf_word(row, EMDF_ROW_BODY_END_BIT) - start) / 8;
+    int is_aligned = start % 8 == 0, is_cut = length > BODY_BYTES_SHOWN;
+    uint32_t number = 0;
+    if (length)
+        number = emdf_move_body(panel->file, panel->length, place, scratch, sizeof scratch, answer);
+    if (number) {
+        printf("  body refused ");
+        print_refusal(number, emdf_word(answer, 0), emdf_word(answer, 1));
+        return;
+    }
+    printf("  body %s bytes=%" PRIu64 " first=", is_aligned ? "aligned" : "moved", length);
+    print_bytes(is_aligned ? panel->file + start / 8 : scratch, is_cut ? (size_t)BODY_BYTES_SHOWN : (size_t)length);
+    puts(is_cut ? ".." : "");
+}
+
+static void print_payload(const struct panel *panel, size_t place)
+{
+    const uint8_t *row = table + place * EMDF_ROW;
+    printf("payload %lu id=%" PRIu64 "\n", (unsigned long)place, emdf_word(row, EMDF_ROW_ID));
+    print_settings(row);
+    print_spans(row);
+    print_ruler(row);
+    print_body(panel, place, row);
+}
+
+static void press_stream(struct panel *panel)
+{
+    uint8_t answer[EMDF_READ_ANSWER];
+    uint32_t number = emdf_read(panel->file, panel->length, table, sizeof table, answer);
+    size_t place;
+    if (number) {
+        printf("error stream: ");
+        print_refusal(number, emdf_word(answer, 0), emdf_word(answer, 1));
+        return;
+    }
+    print_reading("container", answer);
+    print_protection("primary", answer, EMDF_PRIMARY_LENGTH, EMDF_PRIMARY);
+    print_protection("secondary", answer, EMDF_SECONDARY_LENGTH, EMDF_SECONDARY);
+    putchar('\n');
+    for (place = 0; place < emdf_word(answer, EMDF_PAYLOADS); place++)
+        print_payload(panel, place);
+}
+
+/* ---- PROFILE and COMMIT */
+
+static const char *profile_name(const struct panel *panel)
+{
+    return panel->profile == EMDF_STRICT ? "strict" : "compat";
+}
+
+static void press_profile(struct panel *panel)
+{
+    int is_strict = !strcasecmp(panel->argument, "strict");
+    if (!is_strict && strcasecmp(panel->argument, "compat")) {
+        puts("error profile: strict or compat");
+        return;
+    }
+    panel->profile = is_strict ? EMDF_STRICT : EMDF_COMPAT;
+    printf("profile %s\n", profile_name(panel));
+}
+
+static unsigned count_ones(uint64_t marks)
+{
+    unsigned ones = 0;
+    for (; marks; marks &= marks - 1)
+        ones++;
+    return ones;
+}
+
+static void press_commit(struct panel *panel)
+{
+    uint8_t answer[EMDF_VERDICT_ANSWER];
+    uint32_t number = emdf_verdict(panel->file, panel->length, panel->profile, answer);
+    if (number)
+        printf("verdict refused profile=%s number=%" PRIu32 " first=%" PRIu64 " second=%" PRIu64 " words=\"%s\"\n",
+               profile_name(panel), number, emdf_word(answer, 0), emdf_word(answer, 1), find_refusal(number)->words);
+    else
+        printf("verdict accepted profile=%s oamd=%" PRIu64 " joc=%" PRIu64 " marks=0x%06" PRIx64 " deviations=%u\n",
+               profile_name(panel), emdf_word(answer, EMDF_OAMD_PLACE), emdf_word(answer, EMDF_JOC_PLACE),
+               emdf_word(answer, EMDF_MARKS), count_ones(emdf_word(answer, EMDF_MARKS)));
+}
+
+/* ---- the keys */
+
+static void press_quit(struct panel *panel)
+{
+    panel->is_ended = 1;
+}
+
+static void press_help(struct panel *panel);
+
+struct key {
+    const char *name;
+    const char *argument; /* what has to follow, or "" */
+    int needs_file;
+    void (*press)(struct panel *panel);
+    const char *effect;
+};
+
+static const struct key KEYS[] = {
+    {"INPUT", "FILE", 0, press_input, "loads a file of up to 65539 bytes; its length and class"},
+    {"STREAM", "", 1, press_stream, "payloads, spans in bits, rulers (i id, s settings, z size, b body), bodies"},
+    {"PROFILE", "strict|compat", 0, press_profile, "sets the policy of COMMIT, strict at the start"},
+    {"COMMIT", "", 1, press_commit, "the verdict on the carrier at the file's start"},
+    {"HELP", "", 0, press_help, "these lines"},
+    {"QUIT", "", 0, press_quit, "ends the panel"},
+};
+
+enum { KEY_COUNT = sizeof KEYS / sizeof *KEYS };
+
+static void press_help(struct panel *panel)
+{
+    size_t i;
+    (void)panel;
+    for (i = 0; i < KEY_COUNT; i++)
+        printf("%-7s %-13s  %s\n", KEYS[i].name, KEYS[i].argument, KEYS[i].effect);
+}
+
+static void press_key(struct panel *panel, const char *name)
+{
+    const struct key *key = KEYS, *end = KEYS + KEY_COUNT;
+    while (key < end && strcasecmp(name, key->name))
+        key++;
+    if (key == end)
+        puts("error unknown command; HELP lists them");
+    else if (!*panel->argument != !*key->argument)
+        printf("error usage: %s%s%s\n", key->name, *key->argument ? " " : "", key->argument);
+    else if (key->needs_file && !panel->is_loaded)
+        puts("error nothing is loaded");
+    else
+        key->press(panel);
+}
+
+/* ---- lines */
+
+/* 0 at the end of the input. A line that can't be taken whole is passed over whole, and is a blank one. */
+static int read_line(char *line)
+{
+    size_t length = 0;
+    int is_whole = 1, c = getchar();
+    if (c == EOF)
+        return 0;
+    for (; c != EOF && c != '\n'; c = getchar()) {
+        if (c == '\0' || length == LINE_MOST)
+            is_whole = 0;
+        else
+            line[length++] = (char)c;
+    }
+    line[is_whole ? length : 0] = '\0';
+    if (!is_whole)
+        puts("error the line is too long or has a zero byte");
+    return 1;
+}
+
+/* A blank line and a remark, which starts with #, have no answer. */
+static void answer_line(struct panel *panel, char *line)
+{
+    static const char blanks[] = " \t\v\f\r";
+    char *name = line + strspn(line, blanks), *name_end = name + strcspn(name, blanks), *end = name + strlen(name);
+    while (end > name_end && strchr(blanks, end[-1]))
+        *--end = '\0';
+    panel->argument = name_end + strspn(name_end, blanks);
+    *name_end = '\0';
+    if (*name && *name != '#')
+        press_key(panel, name);
+}
+
+int main(void)
+{
+    static struct panel panel; /* nothing is loaded, and the profile is strict */
+    char line[LINE_MOST + 1];
+    int is_terminal = isatty(STDIN_FILENO);
+    while (!panel.is_ended) {
+        if (is_terminal)
+            printf("panel> ");
+        fflush(stdout); /* whoever drives the panel waits for the answer */
+        if (!read_line(line))
+            break;
+        answer_line(&panel, line);
+    }
+    return ferror(stdin) || fflush(stdout) || ferror(stdout);
+}

@@ -1,0 +1,156 @@
+"""What the panel is to answer of a file, by document 01. No code of the library or of the panel is used: spans come from
+the writer that wrote the carrier, verdicts from jocverdict's model, refusals are stated with the carriers that meet them."""
+from model import FIELDS, deviations, found
+from writer import Writer
+
+# The names that the panel gives to the ten settings, in the model's order.
+SETTINGS = ["sample_offset", "duration", "group_id", "codec_data_present", "discard_unknown_payload"] + [
+    "payload_frame_aligned", "create_duplicate", "remove_duplicate", "priority", "processing_allowed"]
+
+# Document 01's refusals: the panel's words, and the names of the figures that 01 has in brackets.
+REFUSALS = {
+    1: ("too few bytes", "needed", "available"),
+    2: ("no sync word", "actual"),
+    3: ("too few bits for a field", "requested", "remaining"),
+    6: ("a variable field has too many groups", "width", "limit"),
+    7: ("a field is above 2^64 - 1",),
+    8: ("a version other than 0", "version"),
+    9: ("reserved bits are not zero",),
+    10: ("the primary protection has the reserved length",),
+    11: ("more than 7 bits after the protection", "bits"),
+    12: ("padding is not zero",),
+    14: ("not one OAMD and one JOC payload", "oamd", "joc"),
+    15: ("the profile is not met", "marks", "deviations"),
+}
+
+
+def refusal(number, figures):
+    words, *names = REFUSALS[number]
+    assert len(names) == len(figures)
+    return " ".join(['number=%d words="%s"' % (number, words)] + ["%s=%d" % pair for pair in zip(names, figures)])
+
+
+def refused_verdict(profile, number, figures):
+    first, second = (tuple(figures) + (0, 0))[:2]
+    form = 'verdict refused profile=%s number=%d first=%d second=%d words="%s"'
+    return [form % (profile, number, first, second, REFUSALS[number][0])]
+
+
+class Unread:
+    """A file at whose start no carrier stands: what a reading refuses it with."""
+
+    def __init__(self, data, number, *figures):
+        self.data, self.number, self.figures = data, number, figures
+
+    def input(self):
+        # Under 2 bytes, or without the sync word, it is non-EMDF; all else that is refused is malformed.
+        is_emdf = self.data[:2] == b"\x58\x38"
+        what = "malformed " + refusal(self.number, self.figures) if is_emdf else "non-emdf"
+        return ["input bytes=%d" % len(self.data), "class " + what]
+
+    def stream(self):
+        return ["error stream: " + refusal(self.number, self.figures)]
+
+    def commit(self, profile):
+        return refused_verdict(profile, self.number, self.figures)
+
+
+class Carrier:
+    """A file that starts with the carrier of these contents, and has more after it, or not."""
+
+    def __init__(self, payloads, key=0, primary=b"\xa5", secondary=b"", more=b""):
+        self.payloads, self.key, self.primary, self.secondary = payloads, key, primary, secondary
+        w = Writer()
+        w.start(key)
+        # The writer's line for a payload is its id, four starts and the body's end.
+        self.places = [[int(word) for word in w.payload(*payload).split()][1:] for payload in payloads]
+        w.end(primary, secondary)
+        self.length = len(w.carrier())
+        self.data = w.carrier() + more
+
+    def reading(self):
+        return "bytes=%d key=%d payloads=%d" % (self.length, self.key, len(self.payloads))
+
+    def input(self):
+        what = "parsed " + self.reading()
+        if len(self.data) > self.length:
+            what = "trailing-data container=%d file=%d" % (self.length, len(self.data))
+        return ["input bytes=%d" % len(self.data), "class " + what]
+
+    def stream(self):
+        protection = (self.primary.hex(), self.secondary.hex() or "none")
+        lines = ["container %s primary=%s secondary=%s" % ((self.reading(),) + protection)]
+        for place, (payload, places) in enumerate(zip(self.payloads, self.places)):
+            lines += payload_lines(place, payload, places)
+        return lines
+
+    def commit(self, profile):
+        found_at = {wanted: [k for k, payload in enumerate(self.payloads) if payload[0] == wanted] for wanted in (11, 14)}
+        counts = (len(found_at[11]), len(found_at[14]))
+        if counts != (1, 1):
+            return refused_verdict(profile, 14, counts)
+        oamd, joc = found_at[11][0], found_at[14][0]
+        marks = deviations(found(self.payloads[oamd][1]), found(self.payloads[joc][1]))
+        word = sum(2**mark for mark, _, _ in marks)
+        if marks and (profile == "strict" or not all(passes for _, _, passes in marks)):
+            return refused_verdict(profile, 15, (word, len(marks)))
+        form = "verdict accepted profile=%s oamd=%d joc=%d marks=0x%06x deviations=%d"
+        return [form % (profile, oamd, joc, word, len(marks))]
+
+
+def payload_lines(place, payload, places):
+    ident, config, body = payload
+    values = [found(config)[name] for name, _, _ in FIELDS]
+    present = ["%s=%d" % pair for pair in zip(SETTINGS, values) if pair[1] is not None]
+    spans = ["%s=%d..%d" % span for span in zip(("id", "settings", "size", "body"), places, places[1:])]
+    return [
+        "payload %d id=%d" % (place, ident),
+        "  settings " + " ".join(present),
+        "  spans " + " ".join(spans),
+        "  ruler " + ruler(places),
+        "  body %s bytes=%d first=%s" % ("moved" if places[3] % 8 else "aligned", len(body), shown(body)),
+    ]
+
+
+def ruler(places):
+    """A mark for each so many bits, with at most 64 full ones a payload; a part's last mark may stand for fewer bits."""
+    bits = -(-(places[4] - places[0]) // 64)
+    marks = [mark * -(-(end - start) // bits) for mark, start, end in zip("iszb", places, places[1:])]
+    drawn = "".join("%d|%s|" % pair for pair in zip(places, marks))
+    return "%s%d bits_a_mark=%d" % (drawn, places[4], bits)
+
+
+def shown(body):
+    if not body:
+        return "none"
+    return body[:16].hex() + (".." if len(body) > 16 else "")
+
+
+def answers(session, files):
+    """The lines for a session that loads these files, each with its answers, and asks of them."""
+    lines, loaded, profile = [], None, "strict"
+    for line in session.splitlines():
+        key, _, argument = line.partition(" ")
+        if key == "INPUT":
+            loaded = files.get(argument)
+            lines += loaded.input() if loaded else [REASONS[argument]]
+        elif key == "PROFILE":
+            profile = argument
+            lines.append("profile " + argument)
+        elif key in ("STREAM", "COMMIT") and not loaded:
+            lines.append("error nothing is loaded")
+        elif key == "STREAM":
+            lines += loaded.stream()
+        elif key == "COMMIT":
+            lines += loaded.commit(profile)
+        else:
+            assert not key or key == "#", line
+    return "".join(line + "\n" for line in lines)
+
+
+# What is said of a file that can't be loaded, by its name.
+REASONS = {
+    "too-long": "error input: longer than 65539 bytes, which no carrier is; nothing is loaded",
+    "missing": "error input: No such file or directory; nothing is loaded",
+    ".": "error input: Is a directory; nothing is loaded",
+}

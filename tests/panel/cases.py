@@ -1,0 +1,134 @@
+"""Runs sessions through the panel, whose name and command are the arguments, and compares the answers with
+- the *.expected file beside each *.session, which is typed by hand for document-01 and commands, and
+- document 01 by answers.py, for each session that only loads files and asks of them; the stored files have to agree with it.
+With --write it writes the *.expected files that aren't typed by hand from answers.py; never from what a panel says."""
+import os
+import pathlib
+import pty
+import re
+import shlex
+import subprocess
+import sys
+import tempfile
+
+from answers import answers
+from carriers import FILES, TOO_LONG, random_carrier
+
+HERE = pathlib.Path(__file__).resolve().parent
+ROOT = HERE.parent.parent
+# About the panel itself and not about carriers, so document 01 has no answers.
+BY_HAND_ALONE = {"commands"}
+BY_HAND = {"commands", "document-01"}
+# A line as long as the panel takes it: 4,095 bytes and 32.
+LONGEST_LINE = "# " + "x" * 4125
+
+
+def ask_all(names):
+    return "".join("INPUT %s\nSTREAM\nPROFILE strict\nCOMMIT\nPROFILE compat\nCOMMIT\n" % name for name in names)
+
+
+def stored_sessions():
+    for path in sorted(HERE.glob("*.session")):
+        yield path.stem, path.read_text(), path.with_suffix(".expected")
+
+
+def sessions(files):
+    """Name, session, answers. The long ones aren't stored."""
+    for name, session, path in stored_sessions():
+        yield name, session, path.read_text()
+        if name not in BY_HAND_ALONE:
+            yield name + ", by document 01", session, answers(session, files)
+    for name in ("many", "most"):
+        yield name + ", whole", ask_all([name]), answers(ask_all([name]), files)
+    chosen = [name for name in files if name.startswith("random")]
+    yield "random carriers", ask_all(chosen), answers(ask_all(chosen), files)
+    yield "no command", "", ""
+    yield "no newline at the end", "PROFILE compat", "profile compat\n"
+    yield "blanks and another case", "  pRoFiLe \t CoMpAt \r\n", "profile compat\n"
+    yield "the longest line", LONGEST_LINE + "\n", ""
+    error = "error the line is too long or has a zero byte\n"
+    yield "a longer line", LONGEST_LINE + "x\nPROFILE compat\n", error + "profile compat\n"
+    yield "a line of a million bytes", "PROFILE compat" + " " * 1000000 + "\n", error
+    yield "a zero byte", "PROFILE compat\0\nPROFILE strict\n", error + "profile strict\n"
+
+
+def run(command, session, folder):
+    done = subprocess.run(command, input=session.encode(), capture_output=True, timeout=300, cwd=folder)
+    return done.stdout.decode(), done.stderr.decode(), done.returncode
+
+
+def run_at_terminal(command, folder):
+    """Two commands typed at a terminal, and its end of input, for a panel that doesn't quit."""
+    ours, theirs = pty.openpty()
+    try:
+        os.write(ours, b"profile compat\nquit\n\x04")
+        done = subprocess.run(command, stdin=theirs, capture_output=True, timeout=60, cwd=folder)
+    finally:
+        os.close(theirs)
+        os.close(ours)
+    return done.stdout.decode(), done.stderr.decode(), done.returncode
+
+
+def readme_example():
+    """The README's commands without the building, and what it says that they print."""
+    section = (ROOT / "README.md").read_text().split("## A host in C\n")[1].split("\n## ")[0]
+    commands, printed = re.findall(r"(?:^    .*\n)+", section, re.M)
+    build, *rest = re.sub("^    ", "", commands, flags=re.M).splitlines(True)
+    assert build == "make panel\n"
+    return "".join(rest), re.sub("^    ", "", printed, flags=re.M)
+
+
+def run_readme(command, folder):
+    script = readme_example()[0].replace("target/bin/panel", shlex.join(command))
+    return run(["sh", "-eu"], script, folder)
+
+
+def unnamed_refusals():
+    """The numbers of emdf.h for which the panel has no words, by any of a number's names."""
+    entries = re.findall(r"^ +(EMDF_\w+) = (\d+),?", (ROOT / "include/emdf.h").read_text().split("};")[0], re.M)
+    panel = (ROOT / "examples/panel/panel.c").read_text()
+    assert ("EMDF_SCRATCH_TOO_SHORT", "19") in entries
+    named = {number for name, number in entries if "{%s, \"" % name in panel}
+    return sorted({int(number) for name, number in entries if name != "EMDF_ACCEPTED" and number not in named})
+
+
+def results(command, folder, files):
+    for name, session, expected in sessions(files):
+        yield name, run(command, session, folder), (expected, "", 0)
+    yield "prompt at a terminal", run_at_terminal(command, folder), ("panel> profile compat\npanel> ", "", 0)
+    yield "the README's example", run_readme(command, folder), (readme_example()[1], "", 0)
+    yield "words for every refusal of emdf.h", unnamed_refusals(), []
+
+
+def first_difference(got, wanted):
+    if got[1:] != wanted[1:]:
+        return "%.300r, not %.300r" % (got[1:], wanted[1:])
+    pairs = enumerate(zip(got[0].splitlines() + [""], wanted[0].splitlines() + [""]), 1)
+    return "line %d: %.300r, not %.300r" % next((n, a, b) for n, (a, b) in pairs if a != b or not a)
+
+
+def check(title, command):
+    files = FILES | {"random-%d" % seed: random_carrier(seed) for seed in range(60)}
+    passed = failed = 0
+    with tempfile.TemporaryDirectory() as folder:
+        for name, file in files.items():
+            pathlib.Path(folder, name).write_bytes(file.data)
+        pathlib.Path(folder, "too-long").write_bytes(TOO_LONG)
+        for name, got, wanted in results(command, folder, files):
+            if got == wanted:
+                passed += 1
+            else:
+                failed += 1
+                print("panel, %s: %s: %s" % (title, name, first_difference(got, wanted) if wanted else got))
+    print("panel, %s: %d passed, %d failed" % (title, passed, failed))
+    return 1 if failed else 0
+
+
+def write():
+    for name, session, path in stored_sessions():
+        if name not in BY_HAND:
+            path.write_text(answers(session, FILES))
+    return 0
+
+
+sys.exit(write() if sys.argv[1:] == ["--write"] else check(sys.argv[1], sys.argv[2:]))
