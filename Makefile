@@ -1,12 +1,13 @@
-# make test        every test: the comparison with the Rust original, the runs of emdfcheck, jocverdict and the panel, then the proofs, must-fail edits and stored runs
+# make test        every test: the comparison with the Rust original, the runs of emdfcheck, jocverdict, emdfedit and the panel, then the proofs, must-fail edits and stored runs
 # make emdfcheck   proves and builds target/bin/emdfcheck
 # make jocverdict  proves and builds target/bin/jocverdict
+# make emdfedit    proves and builds target/bin/emdfedit
 # make bitfields   proves and builds target/bin/bitfields
 # make lib         proves and builds $(LIBRARY), for include/emdf.h
 # make panel       builds target/bin/panel, an example of a host in C, on the proved library
 # make install     puts header, library, emdf.pc and NOTICE under PREFIX
 # make long        the comparison with the Rust original at its long length
-.PHONY: test emdfcheck jocverdict bitfields lib panel install long
+.PHONY: test emdfcheck jocverdict emdfedit bitfields lib panel install long
 # Two runs of rt would write the same target/.
 .NOTPARALLEL:
 
@@ -14,10 +15,11 @@ LIBRARY = target/staticlib/libemdf_host.a
 CFLAGS = -O2
 PREFIX = /usr/local
 
-test: lib emdfcheck jocverdict panel
+test: lib emdfcheck jocverdict emdfedit panel
 	@tests/differential/run --short
 	@tests/emdfcheck/run
 	@tests/jocverdict/run
+	@tests/emdfedit/run
 	@tests/panel/run
 	@rt ci
 
@@ -26,6 +28,9 @@ emdfcheck:
 
 jocverdict:
 	@rt check jocverdict
+
+emdfedit:
+	@rt check emdfedit
 
 bitfields:
 	@rt check bitfields

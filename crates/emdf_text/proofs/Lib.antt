@@ -1,4 +1,5 @@
 pub mod Text
+pub mod Words
 pub mod Put
 pub mod Decimal
 mod Examples

@@ -1,12 +1,10 @@
 -- What the program prints: by its argument, and for the bytes of its input. Assumes nothing.
-use mathlib.Core.Bool.{Bool, true, false}
 use mathlib.Core.List.{List, [], _∷_, _++_}
 use Prim.Native.Nat.{ℕ, _/_, _%_}
 use lib.ListN.{length}
 use lib.Dec.{leb, eqb}
 use lib.Count.{ones}
 use Rattle.openjoc_bitio.specs.Choice.{if_then_else_}
-use Rattle.emdf_format.specs.Contents.{_&_}
 use Rattle.emdf_format.specs.Calls.{profileNumber, profileFigures}
 use Rattle.emdf_format.specs.Profile.{verdict}
 use Rattle.emdf_format.specs.declared.JocValidationProfile.{JocValidationProfile}
@@ -15,17 +13,12 @@ use Rattle.emdf_format.specs.declared.JocProfileError.{JocProfileError}
 use Rattle.emdf_format.specs.declared.JocProfileError.the-variants.{Emdf, PayloadCount, Configuration}
 use Rattle.emdf_format.specs.declared.JocProfileAnswer.{JocProfileAnswer}
 use Rattle.emdf_format.specs.declared.JocProfileAnswer.the-variants.{Accepted, Refused}
+use Rattle.emdf_text.specs.Text.{same}
 use Rattle.emdf_text.specs.Lines.{ascii, line}
 use Rattle.jocverdict.specs.declared.ProfileAnswer.{ProfileAnswer}
 use Rattle.jocverdict.specs.declared.ProfileAnswer.the-variants.{Profile, Usage}
 
 -- ---- the argument
-
-unfoldable pub same : List ℕ → List ℕ → Bool
-same [] [] = true
-same [] (y ∷ ys) = false
-same (x ∷ xs) [] = false
-same (x ∷ xs) (y ∷ ys) = eqb x y & same xs ys
 
 unfoldable pub profileNamed : List ℕ → ProfileAnswer
 profileNamed word =

@@ -10,7 +10,7 @@ ghost use Rattle.openjoc_bitio.specs.Cursor.{number as bitNumber, figures as bi
 ghost use Rattle.emdf_format.specs.Calls.{number, figures};
 ghost use Rattle.emdf_format.specs.declared.JocProfileAnswer.the-variants as JocProfileAnswer;
 ghost use Rattle.emdf_text.specs.Lines.{ascii, line, Put};
-ghost use Rattle.jocverdict.specs.Output.{same, profileNamed, fields, marked, fieldLines, deviationLines, verdictLines, output};
+ghost use Rattle.jocverdict.specs.Output.{profileNamed, fields, marked, fieldLines, deviationLines, verdictLines, output};
 use emdf_format::EmdfError;
 use emdf_format::JocProfileAnswer;
 use emdf_format::JocProfileError;
@@ -51,29 +51,13 @@ fn profile_asked() -> ProfileAnswer {
 fn profile_named(word: &[u8]) -> ProfileAnswer
     ensures { λ r. ⌜ r ≡ profileNamed (now (word .entry)) ⌝ }
 {
-    if is_same(word, b"strict") {
+    if emdf_text::is_same(word, b"strict") {
         return ProfileAnswer::Profile(JocValidationProfile::EtsiStrict);
     }
-    if is_same(word, b"compat") {
+    if emdf_text::is_same(word, b"compat") {
         return ProfileAnswer::Profile(JocValidationProfile::ObservedVendorCompat);
     }
     ProfileAnswer::Usage
-}
-
-fn is_same(a: &[u8], b: &[u8]) -> bool
-    ensures { λ r. ⌜ r ≡ same (now (a .entry)) (now (b .entry)) ⌝ }
-{
-    if a.len() != b.len() {
-        return false;
-    }
-    let mut i: usize = 0;
-    while i < a.len() {
-        if a[i] != b[i] {
-            return false;
-        }
-        i += 1;
-    }
-    true
 }
 
 fn print_verdict(profile: JocValidationProfile) {

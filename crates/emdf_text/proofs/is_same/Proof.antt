@@ -2,10 +2,10 @@ use native.Mathlib.Omega.{arith}
 use mathlib.Core.Path.{_≡_, refl, _∙_}
 use Prim.Native.Nat.{_-_, _≤_}
 use lib.ListN.{length, drop}
-use Rattle.jocverdict.specs.Output.{same}
-use Rattle.jocverdict.proofs.Words.{other-length, same-byte, other-byte, all-same}
-use Rattle.jocverdict.proofs.is_same.Statement.{statement}
-use Rattle.jocverdict.proofs.is_same.Tie as tie
+use Rattle.emdf_text.specs.Text.{same}
+use Rattle.emdf_text.proofs.Words.{other-length, same-byte, other-byte, all-same}
+use Rattle.emdf_text.proofs.is_same.Statement.{statement}
+use Rattle.emdf_text.proofs.is_same.Tie as tie
 
 abbrev Inv-loop : tie.InvT-loop
 Inv-loop a b i₀ i = (length a ≡ length b) × (i ≤ length a) × (same (drop i a) (drop i b) ≡ same a b)
