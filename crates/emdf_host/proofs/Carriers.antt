@@ -1,21 +1,16 @@
--- Laws of the answers on carriers. Assumes nothing.
+-- Laws of the rows, and of the answers on carriers. Assumes nothing.
 use mathlib.Core.Path.{_≡_, refl, sym, ap, _∙_}
-use mathlib.Core.List.{List, [], _∷_, _++_, append-nil, append-assoc}
+use mathlib.Core.List.{List, [], _∷_, _++_}
 use Prim.Native.Nat.{ℕ, zero, suc, _+_, _*_, _/_, _<_, _≤_}
 use native.Mathlib.Nat.{zero-add}
 use native.Mathlib.Omega.{arith}
 use borrow.Author.Tests.{le-leb, lt-leb}
-use lib.ListN.{length, take, drop, getD, length-append}
+use lib.ListN.{length, take, drop, length-append}
 use lib.Seq.{sets, sets-eq}
-use Rattle.openjoc_bitio.specs.declared.ByteCount.{ByteCount}
 use Rattle.openjoc_bitio.specs.declared.BitCursor.{BitCursor}
-use Rattle.openjoc_bitio.specs.declared.BitError.{BitError}
-use Rattle.openjoc_bitio.specs.declared.BitError.the-variants as BitError
-use Rattle.openjoc_bitio.specs.Cursor as bit
 use Rattle.emdf_format.specs.Reading.{Found, Container, reading}
-use Rattle.emdf_format.specs.Calls.{number, figures, recordsNumber, recordsFigures, bodyFigures, recordsOf, inTable, Records, unrecorded, Class, nonEmdf, parsed, trailingData, malformed}
+use Rattle.emdf_format.specs.Calls.{number, figures, recordsNumber, recordsFigures, bodyFigures, recordsOf, inTable, Records, unrecorded}
 use Rattle.emdf_format.specs.declared.EmdfError.{EmdfError}
-use Rattle.emdf_format.specs.declared.EmdfError.the-variants.{TruncatedContainer, InvalidSyncword, Bit, InvalidVariableBits, VariableBitsGroupLimit, ValueOverflow, UnsupportedVersion, NonzeroReservedData, ReservedPrimaryProtectionLength, ExcessPadding, NonzeroPadding}
 use Rattle.emdf_format.specs.declared.RecordsError.{RecordsError}
 use Rattle.emdf_format.specs.declared.RecordsError.the-variants.{Emdf, TableTooShort}
 use Rattle.emdf_format.specs.declared.BodyAnswer.{BodyAnswer}
@@ -24,70 +19,21 @@ use Rattle.emdf_format.specs.declared.Optional.{Optional}
 use Rattle.emdf_format.specs.declared.Optional.the-variants.{Absent, Present}
 use Rattle.emdf_format.specs.declared.EmdfPayloadConfig.{EmdfPayloadConfig}
 use Rattle.emdf_format.specs.declared.PayloadRecord.{PayloadRecord}
-use Rattle.openjoc_emdf.specs.Answers.{nextPayload, turnAnswer, parsedEmdf, containerOf, openAnswer, classAnswer}
+use Rattle.openjoc_emdf.specs.Answers.{nextPayload, turnAnswer, parsedEmdf, containerOf, openAnswer}
 use Rattle.openjoc_emdf.specs.declared.ParsedEmdf.{ParsedEmdf}
 use Rattle.openjoc_emdf.specs.declared.OpenAnswer.the-variants as OpenAnswer
 use Rattle.openjoc_emdf.specs.declared.PayloadStep.{PayloadStep}
 use Rattle.openjoc_emdf.specs.declared.PayloadStep.the-variants as PayloadStep
-use Rattle.openjoc_emdf.specs.declared.CarrierClassification.{CarrierClassification}
-use Rattle.openjoc_emdf.specs.declared.CarrierClassification.the-variants as CarrierClassification
 use Rattle.openjoc_emdf.proofs.Walk.{Listed, listed-step, Opened, opened, unopened}
-use Rattle.emdf_host.specs.Form.{bigEndian, words}
-use Rattle.emdf_host.specs.Bits.{figured}
-use Rattle.emdf_host.specs.Carriers.{padded, parsedWords, readInto, readNumber, readWords, optionalWords, configWords, traceWords, recordWords, rowsBytes, rowsAfter, classNumber, classWords, moveNumber, moveWords}
-use Rattle.emdf_host.specs.declared.Figures.{Figures}
-use Rattle.emdf_host.proofs.Form.{length-words, sets-append, words-stored, words-then, elements-all}
+use Rattle.emdf_form.specs.Form.{bigEndian, words}
+use Rattle.emdf_form.specs.Bits.{figured}
+use Rattle.emdf_form.specs.Carriers.{padded, parsedWords, readInto, readNumber, readWords, optionalWords, configWords, traceWords, recordWords, rowsBytes, rowsAfter, moveNumber, moveWords}
+use Rattle.emdf_form.specs.declared.Figures.{Figures}
+use Rattle.emdf_form.proofs.Form.{length-words, elements-all}
+use Rattle.emdf_form.proofs.Carriers.{two-figures, figured-words}
+use Rattle.emdf_host.proofs.Stored.{sets-append, words-stored, words-then}
 
 -- ---- a row
-
-abbrev pub presenceOf : Optional → ℕ
-presenceOf o = getD (optionalWords o) 0 0
-
-abbrev pub valueOf : Optional → ℕ
-valueOf o = getD (optionalWords o) 1 0
-
--- a setting's two numbers, and what follows them
-optional-then : (o : Optional) {xs ys : List ℕ} → xs ≡ ys → presenceOf o ∷ valueOf o ∷ xs ≡ optionalWords o ++ ys
-unfolding optionalWords
-optional-then Absent e = rw e
-optional-then (Present v) e = rw e
-
--- the 18 numbers one by one
-abbrev pub listed : EmdfPayloadConfig → List ℕ
-listed t =
-    presenceOf (t .«sample_offset»)
-    ∷ valueOf (t .«sample_offset»)
-    ∷ presenceOf (t .duration)
-    ∷ valueOf (t .duration)
-    ∷ presenceOf (t .«group_id»)
-    ∷ valueOf (t .«group_id»)
-    ∷ t .«codec_data_present»
-    ∷ t .«discard_unknown_payload»
-    ∷ presenceOf (t .«payload_frame_aligned»)
-    ∷ valueOf (t .«payload_frame_aligned»)
-    ∷ presenceOf (t .«create_duplicate»)
-    ∷ valueOf (t .«create_duplicate»)
-    ∷ presenceOf (t .«remove_duplicate»)
-    ∷ valueOf (t .«remove_duplicate»)
-    ∷ presenceOf (t .priority)
-    ∷ valueOf (t .priority)
-    ∷ presenceOf (t .«processing_allowed»)
-    ∷ valueOf (t .«processing_allowed»)
-    ∷ []
-
-pub config-listed : (t : EmdfPayloadConfig) → listed t ≡ configWords t
-unfolding configWords
-config-listed t =
-    simp append-assoc
-    (optional-then _
-    (optional-then _
-    (optional-then _
-    (ap (λ (l : List ℕ). t .«codec_data_present» ∷ t .«discard_unknown_payload» ∷ l)
-    (optional-then _
-    (optional-then _
-    (optional-then _
-    (optional-then _
-    (optional-then _ refl ∙ append-nil _)))))))))
 
 length-optional : (o : Optional) → length (optionalWords o) ≡ 2
 unfolding optionalWords
@@ -167,83 +113,6 @@ module _ {s table complete : List ℕ} {at : BitCursor} {i count : ℕ} where
       go [] e r = r
       go (x ∷ xs) e r = absurd (omega arith)
 
--- ---- refusals
-
-two-figures-of-bits : (why : BitError) → length (bit.figures why) ≤ 2
-unfolding bit.figures
-two-figures-of-bits (BitError.EndOfInput requested remaining) = omega arith
-two-figures-of-bits (BitError.InvalidWidth width) = omega arith
-
-pub two-figures : (why : EmdfError) → length (figures why) ≤ 2
-unfolding figures
-two-figures (TruncatedContainer declared available) = omega arith
-two-figures (InvalidSyncword actual) = omega arith
-two-figures (Bit why) = two-figures-of-bits why
-two-figures (InvalidVariableBits width limit) = omega arith
-two-figures (VariableBitsGroupLimit width limit) = omega arith
-two-figures ValueOverflow = omega arith
-two-figures (UnsupportedVersion version) = omega arith
-two-figures NonzeroReservedData = omega arith
-two-figures ReservedPrimaryProtectionLength = omega arith
-two-figures (ExcessPadding bits) = omega arith
-two-figures NonzeroPadding = omega arith
-
--- what a refusal's first two figures leave out is 0
-pub padded-figures : (n : ℕ) (fs : List ℕ) → length fs ≤ 2 → padded (suc (suc n)) (getD fs 0 0 ∷ getD fs 1 0 ∷ []) ≡ padded (suc (suc n)) fs
-unfolding padded
-padded-figures n [] h = refl
-padded-figures n (a ∷ []) h = refl
-padded-figures n (a ∷ b ∷ []) h = refl
-padded-figures n (a ∷ b ∷ d ∷ fs) h = absurd (omega arith)
-
--- the code's figures are the definition's
-figured-words : (n : ℕ) (fs : List ℕ) {f : Figures} → length fs ≤ 2 → f ≡ figured n fs → padded 9 (f .first ∷ f .second ∷ []) ≡ padded 9 fs
-figured-words n fs h e = rw e (padded-figures 7 fs h)
-
--- ---- class
-
-module _ {x : CarrierClassification} where
-  pub none-words : x ≡ CarrierClassification.NonEmdf → (k : Class) → x ≡ classAnswer k → padded 10 [] ≡ classWords k
-  unfolding classAnswer classWords
-  none-words e nonEmdf h = refl
-  none-words e (parsed n c) h = absurd (let w : _≡_ {A = ℕ} 0 1 = cc in omega arith)
-  none-words e (trailingData n len) h = absurd (let w : _≡_ {A = ℕ} 0 1 = cc in omega arith)
-  none-words e (malformed why) h = absurd (let w : _≡_ {A = ℕ} 0 1 = cc in omega arith)
-
-  pub parsed-class : {p : ParsedEmdf} {w : List ℕ} → x ≡ CarrierClassification.Parsed p → ((n : ℕ) (c : Container) → p ≡ parsedEmdf n c → w ≡ parsedWords n c)
-      → (k : Class) → x ≡ classAnswer k → 1 ∷ w ≡ classWords k
-  unfolding classAnswer classWords
-  parsed-class e f nonEmdf h = absurd (let w : _≡_ {A = ℕ} 0 1 = cc in omega arith)
-  parsed-class {p} e f (parsed n c) h = let a : p ≡ parsedEmdf n c = cc in rw (f n c a)
-  parsed-class e f (trailingData n len) h = absurd (let w : _≡_ {A = ℕ} 0 1 = cc in omega arith)
-  parsed-class e f (malformed why) h = absurd (let w : _≡_ {A = ℕ} 0 1 = cc in omega arith)
-
-  pub trailing-words : {n len : ByteCount} → x ≡ CarrierClassification.TrailingData n len → (k : Class) → x ≡ classAnswer k → 2 ∷ padded 9 (n .0 ∷ len .0 ∷ []) ≡ classWords k
-  unfolding classAnswer classWords padded
-  trailing-words e nonEmdf h = absurd (let w : _≡_ {A = ℕ} 0 1 = cc in omega arith)
-  trailing-words e (parsed n c) h = absurd (let w : _≡_ {A = ℕ} 0 1 = cc in omega arith)
-  trailing-words {n} {len} e (trailingData m k) h =
-      let a : n .0 ≡ m = cc in
-      let b : len .0 ≡ k = cc in
-      rw (a, b)
-  trailing-words e (malformed why) h = absurd (let w : _≡_ {A = ℕ} 0 1 = cc in omega arith)
-
-  malformed-is : {why : EmdfError} → x ≡ CarrierClassification.Malformed why → (k : Class) → x ≡ classAnswer k → k ≡ malformed why
-  unfolding classAnswer
-  malformed-is e nonEmdf h = absurd (let w : _≡_ {A = ℕ} 0 1 = cc in omega arith)
-  malformed-is e (parsed n c) h = absurd (let w : _≡_ {A = ℕ} 0 1 = cc in omega arith)
-  malformed-is e (trailingData n len) h = absurd (let w : _≡_ {A = ℕ} 0 1 = cc in omega arith)
-  malformed-is e (malformed why) h = cc
-
-  pub malformed-words : {why : EmdfError} {f : Figures} → x ≡ CarrierClassification.Malformed why → f ≡ figured (number why) (figures why)
-      → (k : Class) → x ≡ classAnswer k → 3 ∷ padded 9 (f .first ∷ f .second ∷ []) ≡ classWords k
-  unfolding classWords padded
-  malformed-words {why} e d k h = rw (malformed-is e k h) (ap (λ (l : List ℕ). 3 ∷ l) (figured-words (number why) (figures why) (two-figures why) d))
-
-  pub malformed-number : {why : EmdfError} {f : Figures} → x ≡ CarrierClassification.Malformed why → f ≡ figured (number why) (figures why) → (k : Class) → x ≡ classAnswer k → f .number ≡ classNumber k
-  unfolding classNumber
-  malformed-number e d k h = rw (malformed-is e k h, d)
-
 -- ---- a reading
 
 -- the three promises of a reading
@@ -303,12 +172,6 @@ length-padded (suc n) (v ∷ vs) = ap suc (length-padded n vs)
 
 pub two-words : (n : ℕ) (ws : List ℕ) {f : Figures} → length ws ≡ 2 → f ≡ figured n ws → f .first ∷ f .second ∷ [] ≡ ws
 two-words n ws l e = rw e (rw l at (elements-all ws))
-
-pub figured-padded : (n : ℕ) (fs : List ℕ) → figured n fs ≡ figured n (padded 2 fs)
-unfolding padded
-figured-padded n [] = refl
-figured-padded n (a ∷ []) = refl
-figured-padded n (a ∷ b ∷ fs) = refl
 
 length-move : (m : BodyAnswer) → length (moveWords m) ≡ 2
 unfolding moveWords

@@ -1,6 +1,3 @@
-pub mod Form
+pub mod Stored
 pub mod Carriers
-pub mod Protection
-pub mod Verdict
-pub mod Settings
 pub mod Edits

@@ -1,7 +1,7 @@
 use borrow.Author.Needs.{needs}
 use mathlib.Core.Path.{refl, _∙_}
-use Rattle.emdf_host.specs.Bits.{replyBytes}
-use Rattle.emdf_host.proofs.Form.{words-whole}
+use Rattle.emdf_form.specs.Bits.{replyBytes}
+use Rattle.emdf_host.proofs.Stored.{words-whole}
 use Rattle.emdf_host.proofs.put_reply.Statement.{statement}
 use Rattle.emdf_host.proofs.put_reply.Tie as tie
 

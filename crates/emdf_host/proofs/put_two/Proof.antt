@@ -1,6 +1,6 @@
 use borrow.Author.Needs.{needs}
 use mathlib.Core.Path.{refl, _∙_}
-use Rattle.emdf_host.proofs.Form.{words-whole}
+use Rattle.emdf_host.proofs.Stored.{words-whole}
 use Rattle.emdf_host.proofs.put_two.Statement.{statement}
 use Rattle.emdf_host.proofs.put_two.Tie as tie
 

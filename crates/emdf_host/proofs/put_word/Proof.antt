@@ -4,8 +4,8 @@ use native.Mathlib.Nat.{add-zero}
 use native.Mathlib.Omega.{arith}
 use lib.ListN.{length, length-set}
 use lib.Seq.{sets}
-use Rattle.emdf_host.specs.Form.{bigEndian}
-use Rattle.emdf_host.proofs.Form.{byte-stored, all-stored}
+use Rattle.emdf_form.specs.Form.{bigEndian}
+use Rattle.emdf_host.proofs.Stored.{byte-stored, all-stored}
 use Rattle.emdf_host.proofs.put_word.Statement.{statement}
 use Rattle.emdf_host.proofs.put_word.Tie as tie
 

@@ -1,0 +1,5 @@
+pub mod Form
+pub mod Carriers
+pub mod Protection
+pub mod Verdict
+pub mod Settings

@@ -1,0 +1,67 @@
+-- Laws of numbers stored in their byte form. Assumes nothing.
+use mathlib.Core.Path.{_≡_, refl, sym, ap, _∙_}
+use mathlib.Core.List.{List, [], _∷_, _++_, append-nil, append-assoc}
+use Prim.Native.Nat.{ℕ, suc, _+_, _-_, _*_, _/_, _%_, _^_, _<_}
+use native.Mathlib.Nat.{add-zero, zero-add, le-refl}
+use native.Mathlib.Numerals.{add-one}
+use native.Mathlib.Omega.{arith}
+use lib.ListN.{length, set, drop, getD}
+use lib.Seq.{sets, sets-eq, drop-cons}
+use Rattle.emdf_form.specs.Form.{bigEndian, words}
+use Rattle.emdf_form.proofs.Form.{length-big-endian, length-words}
+
+-- one byte of a word stored, and none left
+pub byte-stored : (l : List ℕ) (at i v : ℕ) → i < 8
+    → sets (set l (at + i) (v / 2 ^ (56 - 8 * i) % 256)) (at + (i + 1)) (bigEndian (8 - (i + 1)) v) ≡ sets l (at + i) (bigEndian (8 - i) v)
+unfolding bigEndian
+byte-stored l at i v h =
+    let a : 8 - i ≡ suc (8 - (i + 1)) = omega arith in
+    let b : at + (i + 1) ≡ suc (at + i) = omega arith in
+    let d : 56 - 8 * i ≡ 8 * (8 - (i + 1)) = omega arith in
+    rw (a, b, d)
+
+pub all-stored : (l : List ℕ) (at n v : ℕ) → n ≡ 0 → sets l at (bigEndian n v) ≡ l
+unfolding bigEndian
+all-stored l at n v e = rw e
+
+pub sets-append : (l : List ℕ) (i : ℕ) (xs ys : List ℕ) → sets (sets l i xs) (i + length xs) ys ≡ sets l i (xs ++ ys)
+sets-append l i [] ys = rw add-zero
+sets-append l i (x ∷ xs) ys = let e : i + suc (length xs) ≡ suc i + length xs = omega arith in rw e (sets-append (set l i x) (suc i) xs ys)
+
+-- a word stored, and the words after it
+pub words-stored : (l : List ℕ) (i v : ℕ) (vs : List ℕ) → sets (sets l i (bigEndian 8 v)) (i + 8) (words vs) ≡ sets l i (words (v ∷ vs))
+unfolding words
+words-stored l i v vs =
+    ap (λ (n : ℕ). sets (sets l i (bigEndian 8 v)) (i + n) (words vs)) (sym (length-big-endian 8 v)) ∙ sets-append l i (bigEndian 8 v) (words vs)
+
+words-append : (xs ys : List ℕ) → words (xs ++ ys) ≡ words xs ++ words ys
+unfolding words
+words-append [] ys = refl
+words-append (x ∷ xs) ys = rw (words-append xs ys) (sym (append-assoc (bigEndian 8 x) (words xs) (words ys)))
+
+-- some words stored, and others after them
+pub words-then : (l : List ℕ) (i : ℕ) (xs ys : List ℕ) {k : ℕ} → k ≡ i + 8 * length xs → sets (sets l i (words xs)) k (words ys) ≡ sets l i (words (xs ++ ys))
+words-then l i xs ys e = rw (e, words-append, ← length-words xs) (sets-append l i (words xs) (words ys))
+
+drop-all : (l : List ℕ) → drop (length l) l ≡ []
+drop-all [] = refl
+drop-all (x ∷ xs) = drop-all xs
+
+-- a list stored over one of its own length
+stored-whole : (l xs : List ℕ) → length xs ≡ length l → sets l 0 xs ≡ xs
+stored-whole l xs e = sets-eq xs l 0 (rw (zero-add, e) (le-refl _)) ∙ rw (zero-add, e, drop-all) (append-nil xs)
+
+-- the i-th of some words stored, and none left
+pub word-stored : (l : List ℕ) (at i : ℕ) (vs : List ℕ) → i < length vs
+    → sets (sets l (at + 8 * i) (bigEndian 8 (getD vs i 0))) (at + 8 * (i + 1)) (words (drop (i + 1) vs)) ≡ sets l (at + 8 * i) (words (drop i vs))
+word-stored l at i vs h =
+    let a : at + 8 * (i + 1) ≡ at + 8 * i + 8 = omega arith in
+    rw (a, add-one, drop-cons vs i 0) (words-stored l (at + 8 * i) (getD vs i 0) (drop (suc i) vs))
+
+pub words-done : (l : List ℕ) (at i : ℕ) (vs : List ℕ) → i ≡ length vs → sets l at (words (drop i vs)) ≡ l
+unfolding words
+words-done l at i vs e = rw (e, drop-all)
+
+-- over the whole of a list
+pub words-whole : (l vs : List ℕ) → 8 * length vs ≡ length l → sets l 0 (words vs) ≡ words vs
+words-whole l vs e = stored-whole l (words vs) (length-words vs ∙ e)
