@@ -7,7 +7,10 @@
 # make panel       builds target/bin/panel, an example of a host in C, on the proved library
 # make install     puts header, library, emdf.pc and NOTICE under PREFIX
 # make long        the comparison with the Rust original at its long length
-.PHONY: test emdfcheck jocverdict emdfedit bitfields lib panel install long
+# make fuzz        the library's calls fuzzed for a minute, after the fuzzer's self-check
+# make threads     the library's calls from eight threads
+# make stack       the stack that each call takes
+.PHONY: test emdfcheck jocverdict emdfedit bitfields lib panel install long fuzz threads stack
 # Two runs of rt would write the same target/.
 .NOTPARALLEL:
 
@@ -56,3 +59,13 @@ $(LIBRARY):
 
 long: lib
 	@tests/differential/run --long
+
+fuzz: lib
+	@tests/fuzz/run --self-check
+	@tests/fuzz/run
+
+threads: lib
+	@tests/threads/run
+
+stack: lib
+	@tests/stack/run

@@ -1,0 +1,402 @@
+#include "examine.h"
+
+#include <stdio.h>
+#include <stdlib.h>
+#include <string.h>
+
+#include "lent.h"
+
+enum { ROOM_MOST = ROWS_MOST * EMDF_ROW + 1024 };
+
+struct outcome {
+    uint32_t number;
+    uint8_t answer[ANSWER_MOST];
+    size_t filled;
+    const uint8_t *bytes; /* what it filled the room with */
+};
+
+uint32_t (*library_call)(const struct request *) = make_call;
+uint64_t inputs_run, calls_made;
+uint32_t outcomes_seen[CALLS];
+const uint8_t *edited;
+size_t edited_length;
+const struct input *present_input;
+const char *failure_path;
+
+static struct shown source_memory, body_memory, settings_memory;
+static struct filled rooms[2], answers[2];
+static uint8_t *kept[2], *rows, *edited_rows;
+static uint8_t body[BODY_MOST], old_body[BODY_MOST], settings[SETTINGS_MOST];
+static const struct request *present_request;
+static size_t present_room;
+static int is_new;
+
+static uint8_t *bytes_for(size_t size)
+{
+    uint8_t *p = malloc(size);
+
+    if (p == NULL)
+        exit(2);
+    return p;
+}
+
+/* Two fillings that differ in every byte: what a call leaves unwritten differs between its two runs. */
+void prepare_memory(void)
+{
+    int side;
+
+    source_memory = shown_memory(SOURCE_MOST);
+    body_memory = shown_memory(BODY_MOST);
+    settings_memory = shown_memory(SETTINGS_MOST);
+    for (side = AT_END; side <= AT_START; side++) {
+        rooms[side] = filled_memory(ROOM_MOST, side == AT_END ? 0 : 255);
+        answers[side] = filled_memory(ANSWER_MOST, side == AT_END ? 0 : 255);
+        kept[side] = bytes_for(ROOM_MOST);
+    }
+    rows = bytes_for(ROOM_MOST);
+    edited_rows = bytes_for(ROOM_MOST);
+}
+
+/* ---- failures */
+
+static void print_hex(const uint8_t *bytes, size_t length)
+{
+    size_t i;
+
+    for (i = 0; i < length; i++)
+        printf("%02x", bytes[i]);
+    printf("\n");
+}
+
+static void print_request(const struct request *r)
+{
+    printf("  call      %s\n", FACTS[r->call].name);
+    printf("  source    %zu bytes\n", r->source.length);
+    printf("  position  %zu, end %zu, count %zu, width %u, limit %u\n", r->position, r->end, r->count, (unsigned)r->width,
+           (unsigned)r->limit);
+    printf("  place     %zu, number %llu, profile %lu\n", r->place, (unsigned long long)r->number, (unsigned long)r->profile);
+    printf("  body      %zu bytes, settings %zu bytes\n", r->body.length, r->settings.length);
+    printf("  room      %zu bytes\n", present_room);
+}
+
+void failed(const char *what)
+{
+    FILE *file = failure_path != NULL ? fopen(failure_path, "wb") : NULL;
+
+    printf("FAILED: %s (after %llu inputs)\n", what, (unsigned long long)inputs_run);
+    if (present_request != NULL)
+        print_request(present_request);
+    if (present_input != NULL) {
+        printf("  input     %zu bytes: ", present_input->length);
+        print_hex(present_input->bytes, present_input->length);
+        if (file != NULL && fwrite(present_input->bytes, 1, present_input->length, file) == present_input->length &&
+            fclose(file) == 0)
+            printf("  kept in   %s (--replay runs it again)\n", failure_path);
+    }
+    printf("fuzz: %llu inputs, %llu calls, 1 failure\n", (unsigned long long)inputs_run, (unsigned long long)calls_made);
+    fflush(stdout);
+    _Exit(1);
+}
+
+/* ---- one call */
+
+static void judge_call(const struct request *r, enum side side, struct outcome *o)
+{
+    size_t answer = FACTS[r->call].answer;
+
+    if (o->number > 31 || !(FACTS[r->call].numbers >> o->number & 1))
+        failed("a number that is not one of the call's");
+    if (!is_unchanged(&answers[side], r->answer, answer, answer))
+        failed("a byte beside the answer changed");
+    o->filled = o->number == 0 && FACTS[r->call].has_room ? filled_bytes(r->call, r->answer) : 0;
+    if (o->filled > r->room_length)
+        failed("an answer of more bytes than were lent");
+    if (!is_unchanged(&rooms[side], r->room, r->room_length, o->filled))
+        failed(o->number != 0 ? "a refusal changed what was lent" : "a byte changed that the call has not to write");
+}
+
+static struct outcome perform(const struct request *asked, size_t room, enum side side, uint8_t *copy)
+{
+    struct request r = *asked;
+    struct outcome o;
+
+    r.source.bytes = show(&source_memory, asked->source.bytes, asked->source.length, side);
+    r.body.bytes = show(&body_memory, asked->body.bytes, asked->body.length, side);
+    r.settings.bytes = show(&settings_memory, asked->settings.bytes, asked->settings.length, side);
+    r.room = lend(&rooms[side], room, side);
+    r.room_length = room;
+    r.answer = lend(&answers[side], FACTS[r.call].answer, side);
+    present_request = &r;
+    present_room = room;
+    o.number = library_call(&r);
+    calls_made++;
+    judge_call(&r, side, &o);
+    memset(o.answer, 0, sizeof o.answer);
+    memcpy(o.answer, r.answer, FACTS[r.call].answer);
+    memcpy(copy, r.room, o.filled);
+    o.bytes = copy;
+    refill(&answers[side], r.answer, FACTS[r.call].answer);
+    refill(&rooms[side], r.room, o.filled);
+    present_request = asked;
+    return o;
+}
+
+/* The call with its slices against an unreadable page on either side: the same has to come out. */
+static struct outcome perform_twice(const struct request *r, size_t room)
+{
+    struct outcome one = perform(r, room, AT_END, kept[AT_END]);
+    struct outcome other = perform(r, room, AT_START, kept[AT_START]);
+
+    if (one.number != other.number)
+        failed("two runs return two numbers");
+    if (memcmp(one.answer, other.answer, sizeof one.answer) != 0)
+        failed("two runs answer differently, or a byte of the answer was not written");
+    if (memcmp(one.bytes, other.bytes, one.filled) != 0)
+        failed("two runs fill the room differently, or left a byte of it unwritten");
+    if (!(outcomes_seen[r->call] >> one.number & 1)) {
+        outcomes_seen[r->call] |= UINT32_C(1) << one.number;
+        is_new = 1;
+    }
+    return one;
+}
+
+/* First without room, which measures it; then with the room that is chosen. */
+static struct outcome perform_in_room(const struct request *r, const struct input *in)
+{
+    struct outcome bare = perform_twice(r, 0), o;
+    int is_short = bare.number == short_number(r->call);
+    size_t needed = is_short ? needed_bytes(r->call, bare.answer) : 0, room;
+
+    if (needed > ROOM_MOST - 512 || (is_short && needed == 0))
+        failed("more room is asked for than any carrier needs");
+    room = in != NULL ? room_of(in, needed) : needed;
+    o = perform_twice(r, room);
+    /* A table's last part of a row counts for nothing, so a byte too few is a row too few. */
+    if (is_short && room >= needed ? o.number != 0 : o.number != bare.number)
+        failed("the room's length decides wrongly");
+    if (o.number != 0 ? memcmp(o.answer, bare.answer, sizeof o.answer) != 0
+                      : is_short && r->call != READ && r->call != MOVE_BODY && emdf_word(o.answer, 0) != needed)
+        failed("the answers with and without room disagree");
+    return o;
+}
+
+/* ---- readings */
+
+static void read_carrier(const uint8_t *bytes, size_t length, struct reading *own, uint8_t *table)
+{
+    struct request r;
+    struct outcome o;
+
+    memset(&r, 0, sizeof r);
+    r.call = READ;
+    r.source.bytes = bytes;
+    r.source.length = length;
+    o = perform_in_room(&r, NULL);
+    own->number = o.number;
+    memcpy(own->answer, o.answer, sizeof own->answer);
+    memcpy(table, o.bytes, o.filled);
+    own->rows = table;
+}
+
+static void check_class(const struct outcome *o, const struct reading *own, const struct slice *s)
+{
+    uint64_t class = emdf_word(o->answer, EMDF_CLASS), n = emdf_word(own->answer, EMDF_BYTES_CONSUMED);
+    size_t length = s->length;
+    int is_right;
+
+    if (class == EMDF_PARSED)
+        is_right = own->number == 0 && n == length && memcmp(o->answer + 8, own->answer, EMDF_READ_ANSWER) == 0;
+    else if (class == EMDF_TRAILING_DATA)
+        is_right = own->number == 0 && n < length && emdf_word(o->answer, 1) == n && emdf_word(o->answer, 2) == length;
+    else if (class == EMDF_NON_EMDF)
+        is_right = length < 2 || s->bytes[0] != 0x58 || s->bytes[1] != 0x38;
+    else
+        is_right = o->number == own->number && memcmp(o->answer + 8, own->answer, 16) == 0;
+    if (!is_right || (class != EMDF_MALFORMED && o->number != 0))
+        failed("the class disagrees with the reading");
+}
+
+/* Every call on a carrier begins with the same reading. */
+static void check_reading(const struct request *r, const struct outcome *o, const struct reading *own)
+{
+    int is_edit = r->call >= EDIT_BODY;
+    int has_more = own->number == 0 && emdf_word(own->answer, EMDF_BYTES_CONSUMED) < r->source.length;
+
+    if (r->call == CLASSIFY)
+        check_class(o, own, &r->source);
+    else if (own->number != 0 && (o->number != own->number || memcmp(o->answer, own->answer, 16) != 0))
+        failed("the refusal is not the reading's");
+    else if (own->number == 0 && o->number >= 1 && o->number <= EMDF_NONZERO_PADDING)
+        failed("a reading's refusal of a carrier that reads");
+    else if (is_edit && own->number == 0 && has_more != (o->number == EMDF_TRAILING_BYTES))
+        failed("20 does not tell bytes after the carrier");
+}
+
+/* ---- accepted edits */
+
+static uint64_t expected_count(const struct request *r, const struct reading *own)
+{
+    if (r->call == BLANK)
+        return 0;
+    return emdf_word(own->answer, EMDF_PAYLOADS) + (r->call == EDIT_INSERT) - (r->call == EDIT_DROP);
+}
+
+static int are_equal(const struct slice *a, const struct slice *b)
+{
+    return a->length == b->length && memcmp(a->bytes, b->bytes, a->length) == 0;
+}
+
+static struct slice protection(const struct reading *own, size_t word)
+{
+    struct slice s;
+
+    s.length = (size_t)emdf_word(own->answer, word);
+    s.bytes = own->answer + 8 * (word + 1) + 16 - s.length;
+    return s;
+}
+
+static int has_protections(const struct request *r, const struct reading *left)
+{
+    struct slice primary = protection(left, EMDF_PRIMARY_LENGTH), secondary = protection(left, EMDF_SECONDARY_LENGTH);
+
+    return are_equal(&r->body, &primary) && are_equal(&r->settings, &secondary);
+}
+
+/* Whether the payload that was put in or changed is as asked for. */
+static int has_payload(const struct request *r, const struct reading *left)
+{
+    const uint8_t *row = row_of(left, r->place);
+    struct slice found;
+
+    if (row == NULL || (r->call == EDIT_INSERT && emdf_word(row, EMDF_ROW_ID) != r->number))
+        return 0;
+    found.bytes = settings_of_row(row);
+    found.length = EMDF_SETTINGS;
+    if (r->call != EDIT_BODY && !are_equal(&r->settings, &found))
+        return 0;
+    found.length = body_of_row(row, edited, old_body);
+    found.bytes = old_body;
+    return r->call == EDIT_SETTINGS || are_equal(&r->body, &found);
+}
+
+static int has_what_was_asked(const struct request *r, const struct reading *left)
+{
+    if (r->call == EDIT_PROTECTION || r->call == BLANK)
+        return has_protections(r, left);
+    if (r->call == EDIT_BODY || r->call == EDIT_SETTINGS || r->call == EDIT_INSERT)
+        return has_payload(r, left);
+    return 1;
+}
+
+static void check_reads_back(const struct request *r, const struct outcome *o, const struct reading *own)
+{
+    struct reading left;
+    int has_key = r->call == EDIT_KEY || r->call == BLANK;
+
+    read_carrier(edited, edited_length, &left, edited_rows);
+    present_request = r;
+    if (left.number != 0 || emdf_word(left.answer, EMDF_BYTES_CONSUMED) != emdf_word(o->answer, EMDF_WRITTEN_LENGTH))
+        failed("an edited carrier does not read back");
+    if (emdf_word(left.answer, EMDF_PAYLOADS) != expected_count(r, own))
+        failed("an edited carrier has another count of payloads");
+    if (emdf_word(left.answer, EMDF_KEY_ID) != (has_key ? r->number : emdf_word(own->answer, EMDF_KEY_ID)))
+        failed("an edited carrier has another key id");
+    if (!has_what_was_asked(r, &left))
+        failed("an edited carrier has not what was asked for");
+}
+
+/* The edit that has to give the source back. */
+static struct request undoing(const struct request *r, const struct reading *own)
+{
+    struct request back = *r;
+    const uint8_t *row = row_of(own, r->place);
+
+    back.source.bytes = edited;
+    back.source.length = edited_length;
+    back.call = r->call == EDIT_INSERT ? EDIT_DROP : r->call == EDIT_DROP ? EDIT_INSERT : r->call;
+    back.number = emdf_word(own->answer, EMDF_KEY_ID);
+    if (row != NULL) {
+        if (r->call == EDIT_DROP)
+            back.number = emdf_word(row, EMDF_ROW_ID);
+        back.settings.bytes = settings_of_row(row);
+        back.settings.length = EMDF_SETTINGS;
+        back.body.bytes = old_body;
+        back.body.length = body_of_row(row, r->source.bytes, old_body);
+    }
+    if (r->call == EDIT_PROTECTION) {
+        back.body = protection(own, EMDF_PRIMARY_LENGTH);
+        back.settings = protection(own, EMDF_SECONDARY_LENGTH);
+    }
+    return back;
+}
+
+/* Whether the edit asks for what is there already. */
+static int asks_the_same(const struct request *r, const struct request *back)
+{
+    switch (r->call) {
+    case EDIT_BODY:
+        return are_equal(&r->body, &back->body);
+    case EDIT_SETTINGS:
+        return are_equal(&r->settings, &back->settings);
+    case EDIT_KEY:
+        return r->number == back->number;
+    case EDIT_PROTECTION:
+        return are_equal(&r->body, &back->body) && are_equal(&r->settings, &back->settings);
+    default:
+        return 0;
+    }
+}
+
+static void check_undone(const struct request *r, const struct reading *own)
+{
+    struct request back = undoing(r, own);
+    struct outcome o;
+
+    if (asks_the_same(r, &back) != are_equal(&r->source, &back.source))
+        failed("an edit changes the carrier other than it asks for a change");
+    o = perform(&back, r->source.length, AT_END, kept[AT_START]);
+    present_request = r;
+    if (o.number != 0 || o.filled != r->source.length || memcmp(o.bytes, r->source.bytes, o.filled) != 0)
+        failed("an edit undone does not give the source back");
+}
+
+static void check_edit(const struct request *r, const struct outcome *o, const struct reading *own)
+{
+    static uint8_t carrier[SOURCE_MOST];
+
+    if (o->filled < 4 || o->filled > 65539)
+        failed("a carrier of an impossible length");
+    memcpy(carrier, o->bytes, o->filled);
+    edited = carrier;
+    edited_length = o->filled;
+    check_reads_back(r, o, own);
+    if (r->call != BLANK)
+        check_undone(r, own);
+}
+
+int examine(const struct input *in)
+{
+    struct reading own;
+    struct request r;
+    struct outcome o;
+    int has_carrier = FACTS[in->bytes[AT_CALL] % CALLS].has_carrier;
+
+    present_input = in;
+    present_request = NULL;
+    inputs_run++;
+    is_new = 0;
+    edited_length = 0;
+    memset(&own, 0, sizeof own);
+    own.number = EMDF_TRUNCATED_CONTAINER;
+    if (has_carrier)
+        read_carrier(in->bytes + HEAD, in->length - HEAD, &own, rows);
+    r = request_of(in, &own, body, settings);
+    present_request = &r;
+    o = FACTS[r.call].has_room ? perform_in_room(&r, in) : perform_twice(&r, 0);
+    if (has_carrier)
+        check_reading(&r, &o, &own);
+    if (r.call >= EDIT_BODY && o.number == 0)
+        check_edit(&r, &o, &own);
+    present_request = NULL;
+    return is_new;
+}

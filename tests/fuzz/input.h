@@ -1,0 +1,50 @@
+/* What an input says: its first bytes choose the call and its arguments, and the rest is the source. */
+#ifndef INPUT_H
+#define INPUT_H
+
+#include "calls.h"
+
+/* Where the choices stand. */
+enum {
+    AT_CALL = 0, AT_ROOM = 1, AT_PLACE = 2, AT_WIDTH = 3, AT_LIMIT = 4, AT_PROFILE = 5,
+    AT_PRIMARY_LENGTH = 6, AT_SECONDARY_LENGTH = 7,
+    AT_NUMBER = 8, AT_POSITION = 16, AT_END_BIT = 24,
+    AT_BODY_LENGTH = 32, AT_BODY_KIND = 34, AT_SETTINGS_KIND = 35,
+    AT_PRESENT = 36, AT_VALUES = 37, AT_OFFSET = 38, AT_DURATION = 40, AT_GROUP = 44, AT_PRIORITY = 52, AT_PROCESSING = 53,
+    AT_SETTINGS_LENGTH = 54, AT_ROOM_MORE = 55,
+    AT_PRIMARY = 56, AT_SECONDARY = 74,
+    HEAD = 92
+};
+
+enum {
+    SOURCE_MOST = 70000,
+    BODY_MOST = 70000,
+    INPUT_MOST = HEAD + SOURCE_MOST,
+    SETTINGS_MOST = 256,
+    ROWS_MOST = 27592 /* of a carrier of 65,539 bytes */
+};
+
+struct input {
+    size_t length; /* at least HEAD */
+    uint8_t bytes[INPUT_MOST];
+};
+
+/* What the source reads as, where it does. */
+struct reading {
+    uint32_t number;
+    uint8_t answer[EMDF_READ_ANSWER];
+    const uint8_t *rows;
+};
+
+/* The request of an input, without its room and answer. What isn't in the input itself is put into the two buffers. */
+struct request request_of(const struct input *in, const struct reading *own, uint8_t *body, uint8_t *settings);
+
+/* How long the room has to be that the input asks for, where `needed` bytes are needed. */
+size_t room_of(const struct input *in, size_t needed);
+
+/* A payload of a reading: its settings, and its body with the bytes that it takes. */
+const uint8_t *row_of(const struct reading *own, size_t place);
+const uint8_t *settings_of_row(const uint8_t *row);
+size_t body_of_row(const uint8_t *row, const uint8_t *source, uint8_t *body);
+
+#endif

@@ -1,0 +1,249 @@
+#include "mutate.h"
+
+#include <stdlib.h>
+#include <string.h>
+
+uint64_t draw(struct random *random)
+{
+    uint64_t z = random->state += UINT64_C(0x9e3779b97f4a7c15);
+
+    z = (z ^ z >> 30) * UINT64_C(0xbf58476d1ce4e5b9);
+    z = (z ^ z >> 27) * UINT64_C(0x94d049bb133111eb);
+    return z ^ z >> 31;
+}
+
+size_t draw_below(struct random *random, size_t n)
+{
+    return n > 0 ? (size_t)(draw(random) % n) : 0;
+}
+
+void keep(struct pool *pool, struct random *random, const uint8_t *bytes, size_t length)
+{
+    uint8_t *copy = malloc(length + 1);
+    size_t at = pool->count;
+
+    if (pool->items == NULL)
+        pool->items = calloc(pool->most, sizeof pool->items[0]);
+    if (copy == NULL || pool->items == NULL)
+        exit(2);
+    if (pool->count < pool->most) {
+        pool->count++;
+    } else {
+        at = draw_below(random, pool->most);
+        free((void *)pool->items[at].bytes);
+    }
+    memcpy(copy, bytes, length);
+    pool->items[at].bytes = copy;
+    pool->items[at].length = length;
+}
+
+void plain_input(struct input *in, enum call call, const uint8_t *carrier, size_t length)
+{
+    memset(in->bytes, 0, HEAD);
+    in->bytes[AT_CALL] = (uint8_t)call;
+    memcpy(in->bytes + HEAD, carrier, length);
+    in->length = HEAD + length;
+}
+
+void large_input(struct input *in, enum call call, const uint8_t *carrier, size_t length)
+{
+    plain_input(in, call, carrier, length);
+    memset(in->bytes + AT_NUMBER, 255, 8);
+    memset(in->bytes + AT_GROUP, 0x55, 8);
+    in->bytes[AT_GROUP + 7] = 0x53; /* the most that is writable */
+    memcpy(in->bytes + AT_DURATION, "\x00\x40\x07\xff", 4); /* likewise */
+    in->bytes[AT_ROOM] = 4;
+    in->bytes[AT_ROOM_MORE] = 9;
+    in->bytes[AT_WIDTH] = 63;
+    in->bytes[AT_LIMIT] = 32;
+    in->bytes[AT_PROFILE] = 1;
+    in->bytes[AT_PRIMARY_LENGTH] = in->bytes[AT_SECONDARY_LENGTH] = 2; /* 16 bytes */
+    in->bytes[AT_BODY_KIND] = 251;
+    in->bytes[AT_BODY_LENGTH] = in->bytes[AT_BODY_LENGTH + 1] = length > 4096 ? 255 : 1;
+    in->bytes[AT_PRESENT] = 7;
+    in->bytes[AT_OFFSET] = 7;
+}
+
+/* ---- changes */
+
+static void flip_bit(struct input *in, struct random *random)
+{
+    size_t at = draw_below(random, in->length);
+
+    in->bytes[at] ^= (uint8_t)(1u << draw_below(random, 8));
+}
+
+static void change_byte(struct input *in, struct random *random)
+{
+    static const uint8_t edges[] = {0, 1, 2, 11, 14, 31, 63, 64, 127, 128, 240, 250, 254, 255};
+    size_t at = draw_below(random, in->length);
+
+    in->bytes[at] = (uint8_t)(draw(random) % 2 ? draw(random) : edges[draw_below(random, sizeof edges)]);
+}
+
+static void change_head(struct input *in, struct random *random)
+{
+    in->bytes[draw_below(random, HEAD)] = (uint8_t)draw(random);
+}
+
+/* A number near a power of two, or any. */
+static void change_number(struct input *in, struct random *random)
+{
+    static const uint8_t places[] = {AT_NUMBER, AT_POSITION, AT_END_BIT, AT_GROUP};
+    uint64_t v = UINT64_C(1) << draw_below(random, 64);
+    size_t at = places[draw_below(random, sizeof places)], i;
+
+    v += draw_below(random, 5) - 2;
+    if (draw(random) % 4 == 0)
+        v = draw(random) >> draw_below(random, 64);
+    for (i = 8; i > 0; i--) {
+        in->bytes[at + i - 1] = (uint8_t)v;
+        v >>= 8;
+    }
+}
+
+static void insert_bytes(struct input *in, struct random *random)
+{
+    size_t at = HEAD + draw_below(random, in->length - HEAD + 1), n = 1 + draw_below(random, 8), i;
+
+    if (in->length + n > INPUT_MOST)
+        return;
+    memmove(in->bytes + at + n, in->bytes + at, in->length - at);
+    for (i = 0; i < n; i++)
+        in->bytes[at + i] = (uint8_t)(draw(random) % 2 ? draw(random) : 0);
+    in->length += n;
+}
+
+static void delete_bytes(struct input *in, struct random *random)
+{
+    size_t tail = in->length - HEAD, n = 1 + draw_below(random, tail / 4 + 1), at;
+
+    if (n > tail)
+        return;
+    at = HEAD + draw_below(random, tail - n + 1);
+    memmove(in->bytes + at, in->bytes + at + n, in->length - at - n);
+    in->length -= n;
+}
+
+/* A carrier's fields stand at bits, so what follows has to move by bits too. */
+static void insert_bit(struct input *in, struct random *random)
+{
+    size_t at = HEAD + draw_below(random, in->length - HEAD), i;
+    unsigned low = (unsigned)draw_below(random, 8), carry, mask = (1u << low) - 1;
+
+    if (at >= in->length)
+        return;
+    carry = in->bytes[at] & 1;
+    in->bytes[at] = (uint8_t)((in->bytes[at] & ~mask & 255) | (in->bytes[at] & mask) >> 1 | (draw(random) & 1) << low);
+    for (i = at + 1; i < in->length; i++) {
+        unsigned out = in->bytes[i] & 1;
+        in->bytes[i] = (uint8_t)(carry << 7 | in->bytes[i] >> 1);
+        carry = out;
+    }
+}
+
+static void delete_bit(struct input *in, struct random *random)
+{
+    size_t at = HEAD + draw_below(random, in->length - HEAD), i;
+    unsigned mask = (2u << draw_below(random, 8)) - 1;
+
+    for (i = at; i < in->length; i++) {
+        unsigned next = i + 1 < in->length ? in->bytes[i + 1] >> 7 : 0;
+        in->bytes[i] = (uint8_t)((in->bytes[i] & ~mask & 255) | ((in->bytes[i] << 1 | next) & mask));
+        mask = 255;
+    }
+}
+
+/* The rest of the source is another one's. */
+static void splice(struct input *in, struct random *random, const struct pool *corpus)
+{
+    const struct slice *other = &corpus->items[draw_below(random, corpus->count)];
+    size_t at = HEAD + draw_below(random, in->length - HEAD + 1), from = HEAD + draw_below(random, other->length - HEAD + 1);
+    size_t n = other->length - from;
+
+    if (at + n > INPUT_MOST)
+        return;
+    memcpy(in->bytes + at, other->bytes + from, n);
+    in->length = at + n;
+}
+
+/* The header says what is there, or nearly. */
+static void mend_header(struct input *in, struct random *random)
+{
+    size_t tail = in->length - HEAD, declared;
+
+    if (tail < 4)
+        return;
+    declared = tail - 4 - (draw(random) % 16 == 0 ? draw_below(random, 3) : 0);
+    in->bytes[HEAD] = 0x58;
+    in->bytes[HEAD + 1] = 0x38;
+    in->bytes[HEAD + 2] = (uint8_t)(declared >> 8);
+    in->bytes[HEAD + 3] = (uint8_t)declared;
+}
+
+static void change(struct input *in, struct random *random, const struct pool *corpus)
+{
+    switch (draw_below(random, 12)) {
+    case 0:
+    case 1:
+        flip_bit(in, random);
+        break;
+    case 2:
+        change_byte(in, random);
+        break;
+    case 3:
+    case 4:
+        change_head(in, random);
+        break;
+    case 5:
+        change_number(in, random);
+        break;
+    case 6:
+        insert_bytes(in, random);
+        break;
+    case 7:
+        delete_bytes(in, random);
+        break;
+    case 8:
+        insert_bit(in, random);
+        break;
+    case 9:
+        delete_bit(in, random);
+        break;
+    case 10:
+        splice(in, random, corpus);
+        break;
+    default:
+        in->bytes[AT_CALL] = (uint8_t)draw_below(random, CALLS);
+    }
+}
+
+/* The shorter of two mostly: long carriers take time. */
+static const struct slice *choose(const struct pool *pool, struct random *random)
+{
+    const struct slice *a = &pool->items[draw_below(random, pool->count)];
+    const struct slice *b = &pool->items[draw_below(random, pool->count)];
+    const struct slice *c = a->length < b->length ? a : b;
+
+    if (c->length > 2048 && draw(random) % 8 != 0)
+        c = &pool->items[draw_below(random, pool->count)];
+    return c;
+}
+
+void mutate(struct input *in, struct random *random, const struct pool *corpus, const struct pool *carriers)
+{
+    const struct slice *base = choose(corpus, random);
+    size_t n = draw_below(random, draw(random) % 8 == 0 ? 16 : 4) + 1;
+
+    memcpy(in->bytes, base->bytes, base->length);
+    in->length = base->length;
+    if (carriers->count > 0 && draw(random) % 4 == 0) {
+        const struct slice *c = choose(carriers, random);
+        memcpy(in->bytes + HEAD, c->bytes, c->length);
+        in->length = HEAD + c->length;
+    }
+    while (n-- > 0)
+        change(in, random, corpus);
+    if (draw(random) % 4 != 0)
+        mend_header(in, random);
+}

@@ -1,0 +1,121 @@
+#include "seeds.h"
+
+#include <stdlib.h>
+#include <string.h>
+
+#include "emdf.h"
+
+static void put_pair(uint8_t *settings, size_t i, uint64_t value)
+{
+    emdf_set_word(settings, i, 1);
+    emdf_set_word(settings, i + 1, value);
+}
+
+static void put_last(uint8_t *settings, uint64_t priority, uint64_t processing)
+{
+    put_pair(settings, EMDF_SETTINGS_HAS_PRIORITY, priority);
+    put_pair(settings, EMDF_SETTINGS_HAS_PROCESSING_ALLOWED, processing);
+}
+
+static void put_most(uint8_t *settings)
+{
+    put_pair(settings, EMDF_SETTINGS_HAS_SAMPLE_OFFSET, 2047);
+    put_pair(settings, EMDF_SETTINGS_HAS_DURATION, 4196351);
+    put_pair(settings, EMDF_SETTINGS_HAS_GROUP_ID, UINT64_C(6148914691236517203));
+    emdf_set_word(settings, EMDF_SETTINGS_CODEC_DATA_PRESENT, 1);
+    put_last(settings, 31, 3);
+}
+
+static void put_wanted(uint8_t *settings)
+{
+    put_pair(settings, EMDF_SETTINGS_HAS_GROUP_ID, 5);
+    emdf_set_word(settings, EMDF_SETTINGS_CODEC_DATA_PRESENT, 1);
+    put_pair(settings, EMDF_SETTINGS_HAS_PAYLOAD_FRAME_ALIGNED, 1);
+    put_pair(settings, EMDF_SETTINGS_HAS_CREATE_DUPLICATE, 0);
+    put_pair(settings, EMDF_SETTINGS_HAS_REMOVE_DUPLICATE, 0);
+    put_last(settings, 0, 0);
+}
+
+void seed_settings(uint8_t *settings, unsigned kind)
+{
+    memset(settings, 0, EMDF_SETTINGS);
+    if (kind == 0)
+        put_pair(settings, EMDF_SETTINGS_HAS_PAYLOAD_FRAME_ALIGNED, 0);
+    else if (kind == 1)
+        emdf_set_word(settings, EMDF_SETTINGS_DISCARD_UNKNOWN_PAYLOAD, 1);
+    else if (kind == 2)
+        put_most(settings);
+    else
+        put_wanted(settings);
+}
+
+/* A payload more at the end; a carrier that doesn't take it stays. */
+static size_t append(uint8_t *carrier, size_t length, uint64_t place, uint64_t id, unsigned kind, size_t body_length)
+{
+    static uint8_t next[CARRIER_MOST], body[CARRIER_MOST];
+    uint8_t settings[EMDF_SETTINGS], answer[EMDF_EDIT_ANSWER];
+    size_t i;
+
+    seed_settings(settings, kind);
+    for (i = 0; i < body_length; i++)
+        body[i] = (uint8_t)(i * 7 + place);
+    if (emdf_edit_insert(carrier, length, (size_t)place, id, settings, sizeof settings, body, body_length, next, sizeof next,
+                         answer) != EMDF_ACCEPTED)
+        return length;
+    length = (size_t)emdf_word(answer, EMDF_WRITTEN_LENGTH);
+    memcpy(carrier, next, length);
+    return length;
+}
+
+static size_t blank(uint8_t *carrier, uint64_t key, size_t primary, size_t secondary)
+{
+    static const uint8_t bytes[16] = {1, 2, 3, 4, 5, 6, 7, 8, 9, 10, 11, 12, 13, 14, 15, 16};
+    uint8_t answer[EMDF_EDIT_ANSWER];
+
+    if (emdf_blank(key, bytes, primary, bytes, secondary, carrier, CARRIER_MOST, answer) != EMDF_ACCEPTED)
+        abort();
+    return (size_t)emdf_word(answer, EMDF_WRITTEN_LENGTH);
+}
+
+size_t seed_carrier(uint8_t *carrier, unsigned payloads, size_t body_length, int is_wide)
+{
+    size_t length = blank(carrier, is_wide ? UINT64_MAX : 3, is_wide ? 16 : 1, is_wide ? 16 : 0);
+    unsigned k;
+
+    for (k = 0; k < payloads; k++)
+        length = append(carrier, length, k, is_wide ? UINT64_MAX - k : 1 + k % 40, is_wide ? 2 : k % 4, body_length);
+    return length;
+}
+
+static const struct {
+    unsigned payloads;
+    size_t body_length;
+    int is_wide;
+} SHAPES[] = {
+    {0, 0, 1}, {1, 3, 1}, {4, 2, 0}, {40, 1, 0}, {9, 300, 0}, {3, 0, 1}, {600, 0, 0}, {1, 60000, 0}, {1, 65523, 0},
+};
+
+/* As table 56 wants it, in both orders. */
+static size_t pair(uint8_t *carrier, uint64_t first, uint64_t second)
+{
+    size_t length = blank(carrier, 0, 4, 1);
+
+    length = append(carrier, length, 0, first, 3, 2);
+    return append(carrier, length, 1, second, 3, 2);
+}
+
+void seed_carriers(void (*take)(void *with, const uint8_t *bytes, size_t length), void *with)
+{
+    static const uint8_t a[] = {0x58, 0x38, 0x00, 0x03, 0x00, 0x12, 0x94};
+    static const uint8_t b[] = {0x58, 0x38, 0x00, 0x07, 0x00, 0x42, 0x02, 0xc3, 0x02, 0x52, 0x80};
+    static uint8_t carrier[CARRIER_MOST];
+    size_t i;
+
+    take(with, a, 0);
+    take(with, a, sizeof a);
+    take(with, b, sizeof b);
+    take(with, carrier, pair(carrier, 11, 14));
+    take(with, carrier, pair(carrier, 14, 11));
+    for (i = 0; i < sizeof SHAPES / sizeof SHAPES[0]; i++)
+        take(with, carrier, seed_carrier(carrier, SHAPES[i].payloads, SHAPES[i].body_length, SHAPES[i].is_wide));
+}

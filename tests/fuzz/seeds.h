@@ -1,0 +1,19 @@
+/* Carriers to begin with: document 01's, and some that the library writes from a blank one. */
+#ifndef SEEDS_H
+#define SEEDS_H
+
+#include <stddef.h>
+#include <stdint.h>
+
+enum { CARRIER_MOST = 65539 };
+
+/* Hands each carrier to `take`, with what `with` is. */
+void seed_carriers(void (*take)(void *with, const uint8_t *bytes, size_t length), void *with);
+
+/* Settings of a kind: 0 the shortest; 1 discard; 2 every number at its most; 3 as table 56 wants them. */
+void seed_settings(uint8_t *settings, unsigned kind);
+
+/* A carrier of this many payloads with bodies of these lengths, ids and key ids of 64 bits where `is_wide`. Its length. */
+size_t seed_carrier(uint8_t *carrier, unsigned payloads, size_t body_length, int is_wide);
+
+#endif
