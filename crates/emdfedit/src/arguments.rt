@@ -13,14 +13,14 @@ use emdf_format::EmdfPayloadConfig;
 use emdf_format::Optional;
 
 // A command, and how many octets stand in each of two buffers.
-pub struct Request {
+pub(crate) struct Request {
     pub command: Command,
     pub octets: usize,
     pub secondary: usize,
 }
 
 // The blank carrier asks for no input, and neither do wrong arguments.
-pub fn reads_input(command: Command) -> bool
+pub(crate) fn reads_input(command: Command) -> bool
     ensures { λ r. ⌜ r ≡ readsInput command ⌝ }
 {
     match command {
@@ -36,7 +36,7 @@ pub fn reads_input(command: Command) -> bool
 }
 
 // The new body, or the primary protection, is put into octets, and the secondary one into secondary.
-pub fn request_of(line: &[u8], octets: &mut [u8], secondary: &mut [u8]) -> Request
+pub(crate) fn request_of(line: &[u8], octets: &mut [u8], secondary: &mut [u8]) -> Request
     requires { ⌜ (length (now line) ≤ 2 * length (now octets)) × (length (now line) ≤ 2 * length (now secondary)) ⌝ }
     ensures { λ r. ⌜ (meaning (r .command) (take (r .octets) (now (octets .exit))) (take (r .secondary) (now (secondary .exit))) ≡ asked (now (line .entry))) × (r .octets ≤ length (now (octets .exit))) × (r .secondary ≤ length (now (secondary .exit))) ⌝ }
 {

@@ -19,7 +19,7 @@ use libc::STDOUT_FILENO;
 const MOST_BYTES: usize = 65539;
 
 // What the arguments ask for; the octets stand beside it.
-pub enum Command {
+pub(crate) enum Command {
     Body(usize),
     Settings(usize, EmdfPayloadConfig),
     Drop(usize),
@@ -30,7 +30,7 @@ pub enum Command {
     Usage,
 }
 
-pub enum Outcome {
+pub(crate) enum Outcome {
     Answer(EditAnswer),
     LongInput,
     WrongArguments,

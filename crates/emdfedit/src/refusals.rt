@@ -13,7 +13,7 @@ use emdf_format::EditError;
 use emdf_format::EmdfError;
 use openjoc_bitio::BitError;
 
-pub fn put_message(a: Outcome, out: &mut [u8]) -> usize
+pub(crate) fn put_message(a: Outcome, out: &mut [u8]) -> usize
     requires { ⌜ 1024 ≤ length (now out) ⌝ }
     ensures { λ r. ⌜ Put (now (out .entry)) 0 (outcomeText a) (now (out .exit)) r ⌝ }
 {
@@ -27,7 +27,7 @@ pub fn put_message(a: Outcome, out: &mut [u8]) -> usize
 }
 
 // How long the carrier is that stands in the destination.
-pub fn carrier_size(a: Outcome) -> usize
+pub(crate) fn carrier_size(a: Outcome) -> usize
     ensures { λ r. ⌜ r ≡ outcomeSize a ⌝ }
 {
     match a {

@@ -8,7 +8,7 @@ use emdf_format::Optional;
 use emdf_text::NumberAnswer;
 
 // Where the word that starts at index at ends.
-pub fn word_end(line: &[u8], at: usize) -> usize
+pub(crate) fn word_end(line: &[u8], at: usize) -> usize
     requires { ⌜ at ≤ length (now line) ⌝ }
     ensures { λ r. ⌜ (r ≡ at + length (word (drop at (now (line .entry))))) × (r ≤ length (now (line .entry))) ⌝ }
 {
@@ -23,7 +23,7 @@ pub fn word_end(line: &[u8], at: usize) -> usize
 }
 
 // Where the word after it starts.
-pub fn next_word(line: &[u8], at: usize) -> usize
+pub(crate) fn next_word(line: &[u8], at: usize) -> usize
     requires { ⌜ at ≤ length (now line) ⌝ }
     ensures { λ r. ⌜ (drop r (now (line .entry)) ≡ later (drop at (now (line .entry)))) × (r ≤ length (now (line .entry))) ⌝ }
 {
@@ -35,7 +35,7 @@ pub fn next_word(line: &[u8], at: usize) -> usize
 }
 
 // Argument i, from 0.
-pub fn argument(line: &[u8], i: usize) -> &[u8]
+pub(crate) fn argument(line: &[u8], i: usize) -> &[u8]
     ensures { λ r. ⌜ now r ≡ argumentOf i (now (line .entry)) ⌝ }
 {
     let mut at: usize = 0;
@@ -48,7 +48,7 @@ pub fn argument(line: &[u8], i: usize) -> &[u8]
     &line[at..end]
 }
 
-pub fn is_number(text: &[u8]) -> bool
+pub(crate) fn is_number(text: &[u8]) -> bool
     ensures { λ r. ⌜ r ≡ isNumber (now (text .entry)) ⌝ }
 {
     let a = emdf_text::number_at(text, 0);
@@ -58,7 +58,7 @@ pub fn is_number(text: &[u8]) -> bool
     }
 }
 
-pub fn number_in(text: &[u8]) -> u64
+pub(crate) fn number_in(text: &[u8]) -> u64
     ensures { λ r. ⌜ r ≡ numberIn (now (text .entry)) ⌝ }
 {
     let a = emdf_text::number_at(text, 0);
@@ -68,7 +68,7 @@ pub fn number_in(text: &[u8]) -> u64
     }
 }
 
-pub fn is_setting(text: &[u8]) -> bool
+pub(crate) fn is_setting(text: &[u8]) -> bool
     ensures { λ r. ⌜ r ≡ isSetting (now (text .entry)) ⌝ }
 {
     if emdf_text::is_same(text, b"-") {
@@ -77,7 +77,7 @@ pub fn is_setting(text: &[u8]) -> bool
     is_number(text)
 }
 
-pub fn setting_in(text: &[u8]) -> Optional
+pub(crate) fn setting_in(text: &[u8]) -> Optional
     ensures { λ r. ⌜ r ≡ settingIn (now (text .entry)) ⌝ }
 {
     if emdf_text::is_same(text, b"-") {
@@ -137,7 +137,7 @@ fn is_hex(text: &[u8]) -> bool
     i == text.len()
 }
 
-pub fn is_octets(text: &[u8]) -> bool
+pub(crate) fn is_octets(text: &[u8]) -> bool
     ensures { λ r. ⌜ r ≡ isOctets (now (text .entry)) ⌝ }
 {
     if emdf_text::is_same(text, b"-") {
@@ -150,7 +150,7 @@ pub fn is_octets(text: &[u8]) -> bool
 }
 
 // The octets, at the start of out; how many they are.
-pub fn put_octets(out: &mut [u8], text: &[u8]) -> usize
+pub(crate) fn put_octets(out: &mut [u8], text: &[u8]) -> usize
     requires { ⌜ (isOctets (now text) ≡ true) × (length (now text) ≤ 2 * length (now out)) ⌝ }
     ensures { λ r. ⌜ (take r (now (out .exit)) ≡ octetsIn (now (text .entry))) × (r ≤ length (now (out .exit))) ⌝ }
 {
