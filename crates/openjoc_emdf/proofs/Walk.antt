@@ -11,9 +11,10 @@ use Rattle.emdf_format.specs.declared.PayloadRecord.{PayloadRecord}
 use Rattle.emdf_format.specs.Reading.{Found, Container, Reading, accepted, refusal, reading, payloads}
 use Rattle.emdf_format.proofs.Standing.{taken, bind-inv, ask-inv, asked, give-inv}
 use Rattle.emdf_format.proofs.Carrier.{read-contained, read-limit, read-size}
-use Rattle.openjoc_emdf.specs.Answers.{fieldAnswer, Turn, ended, found, nextPayload, turnFound, turnAnswer, parsedEmdf, parseAnswer, reachedBy, firstPayload, openAnswer, parseError}
+use Rattle.openjoc_emdf.specs.Answers.{fieldAnswer, Turn, ended, found, nextPayload, turnFound, turnAnswer, skipOf, parsedEmdf, parseAnswer, reachedBy, firstPayload, openAnswer, parseError}
 use Rattle.openjoc_emdf.specs.declared.PayloadStep.{PayloadStep}
 use Rattle.openjoc_emdf.specs.declared.PayloadStep.the-variants as PayloadStep
+use Rattle.openjoc_emdf.specs.declared.SkipStep.the-variants as SkipStep
 use Rattle.openjoc_emdf.specs.declared.ParsedEmdf.{ParsedEmdf}
 use Rattle.openjoc_emdf.specs.declared.ParseAnswer.{ParseAnswer}
 use Rattle.openjoc_emdf.specs.declared.ParseAnswer.the-variants as ParseAnswer
@@ -104,6 +105,26 @@ module _ (s : List ℕ) (c : BitCursor) where
   pub step-refused : {why : EmdfError} (xs : List Found) → Listed s c xs → stepAt s c ≡ PayloadStep.Refused why → ⊥
   step-refused [] l h = let (d, e) = listed-end s c l in let w : _≡_ {A = ℕ} 0 1 = cc in omega arith
   step-refused (x ∷ xs) l h = let d = listed-step s c x xs l in let w : _≡_ {A = ℕ} 0 1 = cc (d .is) in omega arith
+
+-- ---- what skipping says of the step
+
+pub skip-past : {id : ℕ} {next : BitCursor} (x : PayloadStep) → skipOf x ≡ SkipStep.Past id next → (r : PayloadRecord) × (x ≡ PayloadStep.Payload r next) × (r .id ≡ id)
+unfolding skipOf
+skip-past (PayloadStep.Payload r c) h = (r, cc, cc)
+skip-past (PayloadStep.End c) h = absurd (let w : _≡_ {A = ℕ} 0 1 = cc in omega arith)
+skip-past (PayloadStep.Refused why) h = absurd (let w : _≡_ {A = ℕ} 0 1 = cc in omega arith)
+
+pub skip-end : {next : BitCursor} (x : PayloadStep) → skipOf x ≡ SkipStep.End next → x ≡ PayloadStep.End next
+unfolding skipOf
+skip-end (PayloadStep.Payload r c) h = absurd (let w : _≡_ {A = ℕ} 0 1 = cc in omega arith)
+skip-end (PayloadStep.End c) h = cc
+skip-end (PayloadStep.Refused why) h = absurd (let w : _≡_ {A = ℕ} 0 1 = cc in omega arith)
+
+pub skip-refused : {why : EmdfError} (x : PayloadStep) → skipOf x ≡ SkipStep.Refused why → x ≡ PayloadStep.Refused why
+unfolding skipOf
+skip-refused (PayloadStep.Payload r c) h = absurd (let w : _≡_ {A = ℕ} 0 1 = cc in omega arith)
+skip-refused (PayloadStep.End c) h = absurd (let w : _≡_ {A = ℕ} 0 1 = cc in omega arith)
+skip-refused (PayloadStep.Refused why) h = cc
 
 -- ---- what opening a carrier says
 

@@ -24,6 +24,8 @@ use Rattle.openjoc_emdf.specs.declared.CursorAnswer.{CursorAnswer}
 use Rattle.openjoc_emdf.specs.declared.CursorAnswer.the-variants as CursorAnswer
 use Rattle.openjoc_emdf.specs.declared.PayloadStep.{PayloadStep}
 use Rattle.openjoc_emdf.specs.declared.PayloadStep.the-variants as PayloadStep
+use Rattle.openjoc_emdf.specs.declared.SkipStep.{SkipStep}
+use Rattle.openjoc_emdf.specs.declared.SkipStep.the-variants as SkipStep
 use Rattle.openjoc_emdf.specs.declared.CountAnswer.{CountAnswer}
 use Rattle.openjoc_emdf.specs.declared.CountAnswer.the-variants as CountAnswer
 use Rattle.openjoc_emdf.specs.declared.ProtectionBytes.{ProtectionBytes}
@@ -84,6 +86,12 @@ turnFound (found x) e q = PayloadStep.Payload (x .record-of) (cursorAt e q)
 unfoldable pub turnAnswer : ℕ → Read Turn → PayloadStep
 turnAnswer e (got t q) = turnFound t e q
 turnAnswer e (refused why q) = PayloadStep.Refused why
+
+-- the same, of a payload only its id
+unfoldable pub skipOf : PayloadStep → SkipStep
+skipOf (PayloadStep.Payload r c) = SkipStep.Past (r .id) c
+skipOf (PayloadStep.End c) = SkipStep.End c
+skipOf (PayloadStep.Refused why) = SkipStep.Refused why
 
 -- how many payloads there are, k of them counted already
 unfoldable pub countFrom : ℕ → ℕ → Read (List Found) → CountAnswer

@@ -9,7 +9,7 @@ ghost use Rattle.emdf_format.specs.Calls.{classify};
 ghost use mathlib.Core.List.{List};
 ghost use lib.ListN.{length};
 ghost use Rattle.openjoc_bitio.specs.Cursor.{bitsRemaining};
-ghost use Rattle.openjoc_emdf.specs.Answers.{fieldAnswer, groupAnswer, startAnswer, refusedGroup, oneGroup, optionalAnswer, configAnswer, cursorAnswer, payloadAnswer, turnAnswer, nextPayload, countFrom, bytesAnswer, valueThere, paddingAnswer, containerAnswer, parseAnswer, parsedOf, classAnswer, classifiedOf, reachedBy, firstPayload, openAnswer, parseError, countError, bytesError, paddingError, fieldError, optionalError, configError, cursorError};
+ghost use Rattle.openjoc_emdf.specs.Answers.{fieldAnswer, groupAnswer, startAnswer, refusedGroup, oneGroup, optionalAnswer, configAnswer, cursorAnswer, payloadAnswer, turnAnswer, nextPayload, skipOf, countFrom, bytesAnswer, valueThere, paddingAnswer, containerAnswer, parseAnswer, parsedOf, classAnswer, classifiedOf, reachedBy, firstPayload, openAnswer, parseError, countError, bytesError, paddingError, fieldError, optionalError, configError, cursorError};
 use emdf_format::EmdfError;
 use emdf_format::EmdfPayloadBitTrace;
 use emdf_format::EmdfPayloadConfig;
@@ -123,6 +123,13 @@ enum CursorAnswer {
 // What stands next in the list of payloads: a payload, or the id 0 that ends it.
 pub enum PayloadStep {
     Payload(PayloadRecord, BitCursor),
+    End(BitCursor),
+    Refused(EmdfError),
+}
+
+// The same, of a payload only its id.
+pub enum SkipStep {
+    Past(u64, BitCursor),
     End(BitCursor),
     Refused(EmdfError),
 }
@@ -570,6 +577,23 @@ pub fn next_payload(s: &[u8], c: BitCursor) -> PayloadStep
         return PayloadStep::End(c1);
     }
     payload_after(s, c1, start, id)
+}
+
+// Past the next payload, for a caller who wants no record of it.
+pub fn skip_payload(s: &[u8], c: BitCursor) -> SkipStep
+    ensures { λ r. ⌜ r ≡ skipOf (turnAnswer (c .end) (nextPayload (now (s .entry)) (c .end) (c .position))) ⌝ }
+{
+    skipped(next_payload(s, c))
+}
+
+fn skipped(step: PayloadStep) -> SkipStep
+    ensures { λ r. ⌜ r ≡ skipOf step ⌝ }
+{
+    match step {
+        PayloadStep::Payload(record, next) => SkipStep::Past(record.id, next),
+        PayloadStep::End(next) => SkipStep::End(next),
+        PayloadStep::Refused(why) => SkipStep::Refused(why),
+    }
 }
 
 // Reads all payloads, to the end of the list.
