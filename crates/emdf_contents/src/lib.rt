@@ -50,16 +50,16 @@ fn writable_controls(t: EmdfPayloadConfig) -> bool
     let remove = t.remove_duplicate;
     let priority = t.priority;
     let processing = t.processing_allowed;
-    if !is_ruled(openjoc_emdf::has_aligned(discard, offset), 1, aligned) {
+    if !is_ruled(emdf_settings::has_aligned(discard, offset), 1, aligned) {
         return false;
     }
-    if !is_ruled(openjoc_emdf::is_one(aligned), 1, create) {
+    if !is_ruled(emdf_settings::is_one(aligned), 1, create) {
         return false;
     }
-    if !is_ruled(openjoc_emdf::is_one(aligned), 1, remove) {
+    if !is_ruled(emdf_settings::is_one(aligned), 1, remove) {
         return false;
     }
-    let ranked = openjoc_emdf::has_priority(discard, offset, aligned);
+    let ranked = emdf_settings::has_priority(discard, offset, aligned);
     if !is_ruled(ranked, 31, priority) {
         return false;
     }
@@ -74,9 +74,9 @@ fn is_ruled(there: bool, n: u64, o: Optional) -> bool
         return false;
     }
     if there {
-        return openjoc_emdf::is_present(o);
+        return emdf_settings::is_present(o);
     }
-    !openjoc_emdf::is_present(o)
+    !emdf_settings::is_present(o)
 }
 
 fn at_most(o: Optional, n: u64) -> bool

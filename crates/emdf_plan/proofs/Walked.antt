@@ -13,7 +13,7 @@ use Rattle.emdf_format.proofs.Standing.{taken, chosen, bind-inv, choose-inv, gi
 use Rattle.emdf_format.proofs.Payloads.{Traced, more, spans-stand, at-inv, payloads-sound}
 use Rattle.emdf_format.proofs.Lengths.{length-payload}
 use Rattle.emdf_format.proofs.Spans.{bodyEnd}
-use Rattle.openjoc_emdf.specs.Answers.{Turn, ended, found, nextPayload, turnFound, turnAnswer}
+use Rattle.openjoc_emdf.specs.Answers.{Turn, ended, found, nextPayload, turnFound, turnAnswer, skipOf}
 use Rattle.openjoc_emdf.specs.declared.PayloadStep.the-variants as PayloadStep
 use Rattle.openjoc_emdf.proofs.Walk.{Listed, listed-step, listed-end, stepAt}
 use Rattle.emdf_plan.specs.Plan.{traceAt}
@@ -69,8 +69,8 @@ pub record Ahead (s : List ℕ) (mark : ℕ) (c : BitCursor) (xs : List Found) :
   pub marked : c .position + neededPayloads (payloadsOf xs) ≡ mark
 
 module _ (s : List ℕ) (mark : ℕ) where
-  past-one : (c : BitCursor) (x : Found) (xs : List Found) → Ahead s mark c (x ∷ xs) → Ahead s mark (pastStep (stepAt s c) c) xs
-  unfolding pastStep payloadsOf neededPayloads
+  past-one : (c : BitCursor) (x : Found) (xs : List Found) → Ahead s mark c (x ∷ xs) → Ahead s mark (pastStep (skipOf (stepAt s c)) c) xs
+  unfolding pastStep skipOf payloadsOf neededPayloads
   past-one c x xs a =
       let l = a .listed in
       let d = listed-step s c x xs l in

@@ -4,20 +4,22 @@ use Prim.Native.Nat.{ℕ, zero, suc}
 use Rattle.openjoc_bitio.specs.declared.BitCursor.{BitCursor}
 use Rattle.emdf_format.specs.declared.EmdfPayloadBitTrace.{EmdfPayloadBitTrace}
 use Rattle.emdf_format.specs.Reading.{traceOf}
-use Rattle.openjoc_emdf.specs.Answers.{nextPayload, turnAnswer}
+use Rattle.openjoc_emdf.specs.Answers.{nextPayload, turnAnswer, skipOf}
 use Rattle.openjoc_emdf.specs.declared.PayloadStep.{PayloadStep}
 use Rattle.openjoc_emdf.specs.declared.PayloadStep.the-variants as PayloadStep
+use Rattle.openjoc_emdf.specs.declared.SkipStep.{SkipStep}
+use Rattle.openjoc_emdf.specs.declared.SkipStep.the-variants as SkipStep
 
 -- past a payload; elsewhere the cursor stays
-unfoldable pub pastStep : PayloadStep → BitCursor → BitCursor
-pastStep (PayloadStep.Payload r next) c = next
-pastStep (PayloadStep.End next) c = c
-pastStep (PayloadStep.Refused why) c = c
+unfoldable pub pastStep : SkipStep → BitCursor → BitCursor
+pastStep (SkipStep.Past id next) c = next
+pastStep (SkipStep.End next) c = c
+pastStep (SkipStep.Refused why) c = c
 
 -- past n payloads
 unfoldable pub pastPayloads : List ℕ → BitCursor → ℕ → BitCursor
 pastPayloads s c zero = c
-pastPayloads s c (suc n) = pastPayloads s (pastStep (turnAnswer (c .end) (nextPayload s (c .end) (c .position))) c) n
+pastPayloads s c (suc n) = pastPayloads s (pastStep (skipOf (turnAnswer (c .end) (nextPayload s (c .end) (c .position)))) c) n
 
 -- the spans of the payload that stands next, else all of them empty and where the cursor is
 unfoldable pub stepTrace : PayloadStep → BitCursor → EmdfPayloadBitTrace

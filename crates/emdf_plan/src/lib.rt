@@ -19,8 +19,10 @@ use openjoc_bitio::ByteCount;
 use openjoc_emdf::OpenAnswer;
 use openjoc_emdf::ParsedEmdf;
 use openjoc_emdf::PayloadStep;
+use openjoc_emdf::SkipStep;
 use openjoc_emdf::next_payload;
 use openjoc_emdf::open_carrier;
+use openjoc_emdf::skip_payload;
 
 // One of the six edits, without the bytes that it brings: a body, or a primary and a secondary protection.
 pub enum Request {
@@ -215,20 +217,20 @@ fn skip_payloads(source: &[u8], c: BitCursor, n: usize) -> BitCursor
     let mut at = c;
     let mut left = n;
     while 0 < left {
-        at = past(next_payload(source, at), at);
+        at = past(skip_payload(source, at), at);
         left -= 1;
     }
     at
 }
 
 // The cursor past a payload that is found.
-fn past(step: PayloadStep, c: BitCursor) -> BitCursor
+fn past(step: SkipStep, c: BitCursor) -> BitCursor
     ensures { λ r. ⌜ r ≡ pastStep step c ⌝ }
 {
     match step {
-        PayloadStep::Payload(_, next) => next,
-        PayloadStep::End(_) => c,
-        PayloadStep::Refused(_) => c,
+        SkipStep::Past(_, next) => next,
+        SkipStep::End(_) => c,
+        SkipStep::Refused(_) => c,
     }
 }
 

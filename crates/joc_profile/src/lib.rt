@@ -4,12 +4,16 @@ ghost use mathlib.Core.Bool.{not};
 ghost use mathlib.Core.List.{List};
 ghost use Prim.Native.Nat.{_+_, _≤_, _<_, _^_};
 ghost use lib.ListN.{take, drop};
+ghost use Rattle.openjoc_bitio.specs.declared.BitCursor.{BitCursor};
 ghost use Rattle.emdf_format.specs.Reading.{Found};
 ghost use Rattle.emdf_format.specs.Profile.{meets, lets, differ, onOamd, table56, marks, deviations, word, ones, allPass, meetsProfile, status, judge, verdict};
+ghost use Rattle.emdf_format.specs.declared.PayloadRecord.{PayloadRecord};
 ghost use Rattle.emdf_format.specs.declared.JocRole.the-variants.{Oamd};
 ghost use Rattle.emdf_format.specs.declared.JocProfileValue.the-variants.{Unsigned};
 ghost use Rattle.emdf_format.specs.declared.JocValidationProfile.the-variants.{EtsiStrict, ObservedVendorCompat};
-ghost use Rattle.openjoc_emdf.proofs.Walk.{Listed};
+ghost use Rattle.openjoc_emdf.specs.declared.PayloadStep.the-variants.{Payload};
+ghost use Rattle.openjoc_emdf.proofs.Walk.{Listed, stepAt};
+ghost use Rattle.joc_profile.specs.declared.Seen.the-variants.{One};
 ghost use Rattle.joc_profile.specs.Pair.{countOf, seenNext, pairOf, judgedPair, bitOf, passesAs, openError, pairError};
 use emdf_format::AllowedDeviation;
 use emdf_format::EmdfError;
@@ -23,12 +27,12 @@ use emdf_format::JocValidationProfile;
 use emdf_format::JocValidationStatus;
 use emdf_format::OAMD_PAYLOAD_ID;
 use emdf_format::Optional;
-use emdf_format::PayloadRecord;
 use emdf_format::PlacedConfig;
 use emdf_format::ValidatedJocProfile;
 use openjoc_bitio::BitCursor;
 use openjoc_emdf::OpenAnswer;
 use openjoc_emdf::PayloadStep;
+use openjoc_emdf::SkipStep;
 
 // The payloads with one id: none, one with its place and its settings, or how many.
 enum Seen {
@@ -93,37 +97,50 @@ fn find_pair(s: &[u8], first: BitCursor) -> PairAnswer
     let mut place: usize = 0;
     let mut at = first;
     loop {
-        let step = openjoc_emdf::next_payload(s, at);
+        let step = openjoc_emdf::skip_payload(s, at);
         match step {
-            PayloadStep::Payload(record, next) => {
-                oamd = seen_next(oamd, OAMD_PAYLOAD_ID, place, record);
-                joc = seen_next(joc, JOC_PAYLOAD_ID, place, record);
+            SkipStep::Past(id, next) => {
+                oamd = seen_next(oamd, OAMD_PAYLOAD_ID, place, id, s, at);
+                joc = seen_next(joc, JOC_PAYLOAD_ID, place, id, s, at);
                 place += 1;
                 at = next;
             }
-            PayloadStep::End(_) => {
+            SkipStep::End(_) => {
                 return PairAnswer::Pair(oamd, joc);
             }
-            PayloadStep::Refused(why) => {
+            SkipStep::Refused(why) => {
                 return PairAnswer::Refused(why);
             }
         }
     }
 }
 
-// One more payload, at a place.
-fn seen_next(before: Seen, id: u64, place: usize, next: PayloadRecord) -> Seen
+// One more payload, at a place. Only the first with the wanted id is read once more, for its settings.
+fn seen_next(before: Seen, wanted: u64, place: usize, id: u64, s: &[u8], at: BitCursor) -> Seen
     requires { ⌜ (countOf before ≤ place) × (place + 1 < 2 ^ 64) ⌝ }
-    ensures { λ r. ⌜ r ≡ seenNext before id place next ⌝ }
+    ensures { λ r. ⌜ ((p : PayloadRecord) (next : BitCursor) → stepAt (now (s .entry)) at ≡ Payload p next → p .id ≡ id → r ≡ seenNext before wanted place p) ⌝ }
 {
-    if next.id != id {
+    if id != wanted {
         return before;
     }
-    let config = next.config;
     match before {
-        Seen::Nothing => Seen::One(PlacedConfig { place, config }),
+        Seen::Nothing => first_seen(place, s, at),
         Seen::One(_) => Seen::Several(2),
         Seen::Several(n) => Seen::Several(n + 1),
+    }
+}
+
+// The payload at the cursor, with its settings. The caller went past it already, so it is there.
+fn first_seen(place: usize, s: &[u8], at: BitCursor) -> Seen
+    ensures { λ r. ⌜ ((p : PayloadRecord) (next : BitCursor) → stepAt (now (s .entry)) at ≡ Payload p next → r ≡ One (record { place = place; config = p .config })) ⌝ }
+{
+    match openjoc_emdf::next_payload(s, at) {
+        PayloadStep::Payload(record, _) => {
+            let config = record.config;
+            Seen::One(PlacedConfig { place, config })
+        }
+        PayloadStep::End(_) => Seen::Nothing,
+        PayloadStep::Refused(_) => Seen::Nothing,
     }
 }
 
@@ -308,8 +325,8 @@ fn meets_wanted(wanted: JocProfileValue, found: Optional) -> bool
     ensures { λ r. ⌜ r ≡ meets wanted found ⌝ }
 {
     match wanted {
-        JocProfileValue::Absent => !openjoc_emdf::is_present(found),
-        JocProfileValue::Present => openjoc_emdf::is_present(found),
+        JocProfileValue::Absent => !emdf_settings::is_present(found),
+        JocProfileValue::Present => emdf_settings::is_present(found),
         JocProfileValue::Unsigned(v) => is_value(found, v),
     }
 }
@@ -328,7 +345,7 @@ fn differs(a: Optional, b: Optional) -> bool
     ensures { λ r. ⌜ r ≡ differ a b ⌝ }
 {
     match a {
-        Optional::Absent => openjoc_emdf::is_present(b),
+        Optional::Absent => emdf_settings::is_present(b),
         Optional::Present(v) => !is_value(b, v),
     }
 }

@@ -2,7 +2,7 @@
 ghost use mathlib.Core.Path.{_≡_};
 ghost use Prim.Native.Nat.{min, _+_, _-_, _*_, _/_, _%_, _^_, _<_, _≤_};
 ghost use lib.ListN.{length};
-ghost use Rattle.openjoc_bitio.specs.Bits.{bitAt, bitsValue};
+ghost use Rattle.openjoc_bitio.specs.Bits.{bitAt, bitsValue, windowAt, swapFour, swapOctets};
 ghost use Rattle.openjoc_bitio.specs.Cursor.{bitLength, wholeSlice, bitsRemaining, readBits, readBit, takeBits, byteAlign};
 ghost use Rattle.openjoc_bitio.specs.Reader.{bitsStep, bitStep, windowStep, alignStep, opened, moved, remaining, bitsRead, bitRead, windowTaken, window, aligned};
 
@@ -184,21 +184,84 @@ fn value_at(s: &[u8], p: usize, w: usize) -> u64
     if w == 0 {
         return 0;
     }
-    if w <= 8 {
-        return short_value(s, p, w);
+    if w <= 57 {
+        return window_at(s, p) >> (64 - w);
     }
     long_value(s, p, w)
 }
 
-// Few bits lie in one octet or in two that adjoin: of these the first bits are dropped, and the last.
-fn short_value(s: &[u8], p: usize, w: usize) -> u64
-    requires { ⌜ (0 < w) × (w ≤ 8) × (w ≤ length (now s) * 8 - p) × (p + w < 2 ^ 64) ⌝ }
-    ensures { λ r. ⌜ r ≡ bitsValue (now (s .entry)) p w ⌝ }
+// The bits from position p to the end of its octet and of the seven after it, at least 57, at the top of a word; those
+// past the slice are 0.
+pub fn window_at(s: &[u8], p: usize) -> u64
+    ensures { λ r. ⌜ r ≡ windowAt (now (s .entry)) p ⌝ }
 {
-    let first = p / 8;
-    let last = (p + w - 1) / 8;
-    let pair = wide(s[first]) * 256 + wide(s[last]);
-    (pair >> (16 - p % 8 - w)) % pow2(w)
+    let i = p / 8;
+    if s.len() < i + 8 {
+        return last_window(s, p);
+    }
+    octets_at(s, i) << (p % 8)
+}
+
+// The same where it reaches past the slice.
+fn last_window(s: &[u8], p: usize) -> u64
+    requires { ⌜ length (now s) < p / 8 + 8 ⌝ }
+    ensures { λ r. ⌜ r ≡ windowAt (now (s .entry)) p ⌝ }
+{
+    let i = p / 8;
+    let n = s.len();
+    if n <= i {
+        return 0;
+    }
+    if n < 8 {
+        return (few_octets(s, i) << ((8 + i - n) * 8)) << (p % 8);
+    }
+    octets_at(s, n - 8) << (p - (n - 8) * 8)
+}
+
+// The octets from index i on, fewer than eight, as a number.
+fn few_octets(s: &[u8], i: usize) -> u64
+    requires { ⌜ (i ≤ length (now s)) × (length (now s) < i + 8) ⌝ }
+    ensures { λ r. ⌜ r ≡ bitsValue (now (s .entry)) (i * 8) ((length (now (s .entry)) - i) * 8) ⌝ }
+{
+    let mut value: u64 = 0;
+    let mut k = i;
+    while k < s.len() {
+        value = value * 256 + wide(s[k]);
+        k += 1;
+    }
+    value
+}
+
+// The eight octets from index i on, as a number. They are taken in the machine's order and turned round, which compiles
+// to one load.
+fn octets_at(s: &[u8], i: usize) -> u64
+    requires { ⌜ i + 8 ≤ length (now s) ⌝ }
+    ensures { λ r. ⌜ r ≡ bitsValue (now (s .entry)) (i * 8) 64 ⌝ }
+{
+    swap_octets(little_four(s, i) + little_four(s, i + 4) * 0x1_0000_0000)
+}
+
+// The four octets from index i on, the first the least significant.
+fn little_four(s: &[u8], i: usize) -> u64
+    requires { ⌜ i + 4 ≤ length (now s) ⌝ }
+    ensures { λ r. ⌜ (r < 2 ^ 32) × (swapFour r ≡ bitsValue (now (s .entry)) (i * 8) 32) ⌝ }
+{
+    wide(s[i]) + wide(s[i + 1]) * 0x100 + wide(s[i + 2]) * 0x1_0000 + wide(s[i + 3]) * 0x100_0000
+}
+
+// v with its eight octets in the opposite order.
+pub fn swap_octets(v: u64) -> u64
+    ensures { λ r. ⌜ r ≡ swapOctets v ⌝ }
+{
+    swap_four(v % 0x1_0000_0000) * 0x1_0000_0000 + swap_four(v >> 32)
+}
+
+// The same of four octets.
+fn swap_four(v: u64) -> u64
+    requires { ⌜ v < 2 ^ 32 ⌝ }
+    ensures { λ r. ⌜ r ≡ swapFour v ⌝ }
+{
+    (v >> 24) + (v >> 16) % 256 * 0x100 + (v >> 8) % 256 * 0x1_0000 + v % 256 * 0x100_0000
 }
 
 // Many bits are taken an octet at a time.

@@ -2,7 +2,7 @@
 ghost use mathlib.Core.Path.{_≡_};
 ghost use Prim.Native.Nat.{_+_, _-_, _*_, _^_, _≤_, _<_};
 ghost use Rattle.emdf_format.specs.Syntax.{escape as ones};
-ghost use Rattle.emdf_format.specs.Contents.{isPresent, isOne, hasAligned, hasPriority, protectionLength};
+ghost use Rattle.emdf_format.specs.Contents.{protectionLength};
 ghost use Rattle.emdf_format.specs.Reader.{bits, groupsFrom, variableBits, extendedValue, octets, present, flagged};
 ghost use Rattle.emdf_format.specs.Reading.{sampleOffset, codecData, configControls, payloadConfig, traceOf, Found, payloadAfter, payloads, padding, containerEnd, container, reading};
 ghost use Rattle.emdf_format.specs.Calls.{classify};
@@ -375,49 +375,6 @@ fn optional_error(a: OptionalAnswer) -> EmdfError
     }
 }
 
-// Whether a setting is there.
-pub fn is_present(o: Optional) -> bool
-    ensures { λ r. ⌜ r ≡ isPresent o ⌝ }
-{
-    match o {
-        Optional::Absent => false,
-        Optional::Present(_) => true,
-    }
-}
-
-// Whether a setting is there and is 1.
-pub fn is_one(o: Optional) -> bool
-    ensures { λ r. ⌜ r ≡ isOne o ⌝ }
-{
-    match o {
-        Optional::Absent => false,
-        Optional::Present(value) => value == 1,
-    }
-}
-
-// Whether the rule wants payload_frame_aligned.
-pub fn has_aligned(discard: u64, offset: Optional) -> bool
-    ensures { λ r. ⌜ r ≡ hasAligned discard offset ⌝ }
-{
-    if discard != 0 {
-        return false;
-    }
-    !is_present(offset)
-}
-
-// Whether the rule wants priority and processing.
-pub fn has_priority(discard: u64, offset: Optional, aligned: Optional) -> bool
-    ensures { λ r. ⌜ r ≡ hasPriority discard offset aligned ⌝ }
-{
-    if discard != 0 {
-        return false;
-    }
-    if is_present(offset) {
-        return true;
-    }
-    is_one(aligned)
-}
-
 // The ten settings of a payload.
 fn payload_config(s: &[u8], c: BitCursor) -> ConfigAnswer
     ensures { λ r. ⌜ r ≡ configAnswer (c .end) (payloadConfig (now (s .entry)) (c .end) (c .position)) ⌝ }
@@ -457,19 +414,19 @@ fn config_controls(
 ) -> ConfigAnswer
     ensures { λ r. ⌜ r ≡ configAnswer (c .end) (configControls offset duration group codec discard (now (s .entry)) (c .end) (c .position)) ⌝ }
 {
-    let a1 = present_bits(s, c, has_aligned(discard, offset), 1);
+    let a1 = present_bits(s, c, emdf_settings::has_aligned(discard, offset), 1);
     let OptionalAnswer::Value(aligned, c1) = a1 else {
         return ConfigAnswer::Refused(optional_error(a1));
     };
-    let a2 = present_bits(s, c1, is_one(aligned), 1);
+    let a2 = present_bits(s, c1, emdf_settings::is_one(aligned), 1);
     let OptionalAnswer::Value(create, c2) = a2 else {
         return ConfigAnswer::Refused(optional_error(a2));
     };
-    let a3 = present_bits(s, c2, is_one(aligned), 1);
+    let a3 = present_bits(s, c2, emdf_settings::is_one(aligned), 1);
     let OptionalAnswer::Value(remove, c3) = a3 else {
         return ConfigAnswer::Refused(optional_error(a3));
     };
-    let ranked = has_priority(discard, offset, aligned);
+    let ranked = emdf_settings::has_priority(discard, offset, aligned);
     let a4 = present_bits(s, c3, ranked, 5);
     let OptionalAnswer::Value(priority, c4) = a4 else {
         return ConfigAnswer::Refused(optional_error(a4));

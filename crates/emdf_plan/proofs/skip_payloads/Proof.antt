@@ -15,8 +15,8 @@ abbrev μ-loop : tie.MeasureT-loop
 loop-holds : tie.Need-loop-holds Inv-loop μ-loop
 loop-holds c = refl
 
-next-payload-requires : tie.Need-next-payload-requires Inv-loop μ-loop
-next-payload-requires c κs = search needs
+skip-payload-requires : tie.Need-skip-payload-requires Inv-loop μ-loop
+skip-payload-requires c κs = search needs
 
 past-requires : tie.Need-past-requires Inv-loop μ-loop
 past-requires c κs = search needs
@@ -32,7 +32,7 @@ unfolding pastPayloads
 loop-again c =
     let l = c .before .before .before .loop in
     let z : l .left ≡ suc (l .left - 1) = omega arith in
-    rw (c .past .ensures, c .before .next-payload .ensures) (rw z at (l .inv))
+    rw (c .past .ensures, c .before .skip-payload .ensures) (rw z at (l .inv))
 
 returns : tie.Need-returns Inv-loop μ-loop
 unfolding pastPayloads
@@ -47,7 +47,7 @@ skip-payloads-spec =
     Inv-loop
     μ-loop
     loop-holds
-    next-payload-requires
+    skip-payload-requires
     past-requires
     sub-left
     loop-less

@@ -1,8 +1,8 @@
 use borrow.Author.Needs.{needs}
 use borrow.Author.Tests.{eq-eqb, ne-eqb}
 use Rattle.emdf_format.specs.Contents.{_&_, hasAligned}
-use Rattle.openjoc_emdf.proofs.has_aligned.Statement.{statement}
-use Rattle.openjoc_emdf.proofs.has_aligned.Tie as tie
+use Rattle.emdf_settings.proofs.has_aligned.Statement.{statement}
+use Rattle.emdf_settings.proofs.has_aligned.Tie as tie
 
 returns : tie.Need-returns
 unfolding hasAligned _&_

@@ -2,8 +2,8 @@ use borrow.Author.Needs.{needs}
 use borrow.Author.Tests.{eq-eqb, ne-eqb}
 use mathlib.Core.Path.{sym, _∙_}
 use Rattle.emdf_format.specs.Contents.{_&_, hasPriority}
-use Rattle.openjoc_emdf.proofs.has_priority.Statement.{statement}
-use Rattle.openjoc_emdf.proofs.has_priority.Tie as tie
+use Rattle.emdf_settings.proofs.has_priority.Statement.{statement}
+use Rattle.emdf_settings.proofs.has_priority.Tie as tie
 
 returns : tie.Need-returns
 unfolding hasPriority _&_

@@ -1,7 +1,7 @@
 use borrow.Author.Needs.{needs}
 use Rattle.emdf_format.specs.Contents.{isOne}
-use Rattle.openjoc_emdf.proofs.is_one.Statement.{statement}
-use Rattle.openjoc_emdf.proofs.is_one.Tie as tie
+use Rattle.emdf_settings.proofs.is_one.Statement.{statement}
+use Rattle.emdf_settings.proofs.is_one.Tie as tie
 
 enum-told : tie.Need-enum-told
 enum-told c = search needs

@@ -1,0 +1,377 @@
+-- Compact fields, read from a word, are what the readers of emdf_format find. Assumes nothing.
+use mathlib.Core.Path.{_≡_, refl, sym, ap, _∙_}
+use mathlib.Core.Bool.{Bool, true, false, not, _||_}
+use mathlib.Core.List.{List}
+use Prim.Native.Nat.{ℕ, suc, zero, _+_, _-_, _*_, _/_, _%_, _^_, _≤_, _<_}
+use native.Mathlib.Omega.{arith}
+use native.Mathlib.Nat.{add-assoc, add-zero}
+use native.Mathlib.Decide.{decLe}
+use lib.Dec.{T, eqb, ltb, lit≤, lit<, eqb→eq, eqb-refl}
+use lib.Pow.{shl-shr, shr-shr, field, low, pow-mono}
+use borrow.Author.Tests.{eq-eqb, ne-eqb, lt-ltb, le-leb}
+use Rattle.openjoc_bitio.specs.Choice.{if_then_else_}
+use Rattle.openjoc_bitio.specs.Bits.{bitsValue, windowAt}
+use Rattle.openjoc_bitio.proofs.Bits.{value-split, value-range, window-top}
+use Rattle.emdf_format.specs.Syntax.{escape}
+use Rattle.emdf_format.specs.Contents.{_&_, isPresent, isOne, hasAligned, hasPriority}
+use Rattle.emdf_format.specs.Reader.{Read, got, Reader, _>>=_, give, ask, choose, bits, groupsFrom, variableBits, extendedValue, present, flagged}
+use Rattle.emdf_format.specs.Reading.{reserved, sampleOffset, codecData, configControls, payloadConfig}
+use Rattle.emdf_format.specs.declared.Optional.{Optional}
+use Rattle.emdf_format.specs.declared.Optional.the-variants.{Absent, Present}
+use Rattle.emdf_format.proofs.Standing.{bitLimit, bind-go, ask-go, choose-this, choose-that, give-go, ask-fine, T-of, T-not-of, neqb→ne, and, both, fits, is-true}
+use Rattle.emdf_format.proofs.Loops.{bits-there}
+use Rattle.emdf_settings.specs.Words.{top, after, headLength, sizeLength, sizeValue, codecSpan, codecEnds, controlsSpan, compactControls, flaggedAfter, afterTiming, afterGroup, afterCodec, compactSettings, compactConfig, configLength,  flaggedSpan, flaggedValue, flaggedEnds, presentSpan, presentValue}
+
+-- ---- a word
+
+-- the first m bits of x are those of s from position p on
+pub record Word (s : List ℕ) (p m x : ℕ) : Type 0 where
+  pub is : (n : ℕ) → n ≤ m → top n x ≡ bitsValue s p n
+
+pub word-window : (s : List ℕ) (p : ℕ) → Word s p 57 (windowAt s p)
+word-window s p = record { is = λ n h. window-top s p n h }
+
+pub word-after : {s : List ℕ} {p m x : ℕ} (a : ℕ) → m ≤ 64 → a ≤ m → Word s p m x → Word s (p + a) (m - a) (after a x)
+word-after {s} {p} {m} {x} a l h w = record { is = bits-after }
+  where
+    bits-after : (n : ℕ) → n ≤ m - a → top n (after a x) ≡ bitsValue s (p + a) n
+    bits-after n k =
+        let e = 64 - (a + n) in
+        let i : 64 ≡ n + (64 - n) = omega arith in
+        let j : 64 - n ≡ a + e = omega arith in
+        let above : x * 2 ^ a % 2 ^ 64 / 2 ^ (64 - n) ≡ x * 2 ^ a / 2 ^ (64 - n) % 2 ^ n = ap (λ (z : ℕ). x * 2 ^ a % 2 ^ z / 2 ^ (64 - n)) i ∙ field (x * 2 ^ a) n (64 - n) in
+        let moved : x * 2 ^ a / 2 ^ (64 - n) ≡ x / 2 ^ e = ap (λ (z : ℕ). x * 2 ^ a / 2 ^ z) j ∙ sym (shr-shr (x * 2 ^ a) a e) ∙ ap (λ (z : ℕ). z / 2 ^ e) (shl-shr x a) in
+        above ∙ ap (λ (z : ℕ). z % 2 ^ n) (moved ∙ w .is (a + n) (omega arith) ∙ value-split s p a n) ∙ low (bitsValue s p a) n (value-range s (p + a) n)
+
+-- a flag that is not 0
+flag-set : (v : ℕ) → v < 2 → eqb v 0 ≡ false → v ≡ 1
+flag-set v l h = let f = neqb→ne v 0 (T-not-of h) in elim (decLe 1 v) [
+  | yes k ↦ omega arith
+  | no k ↦ absurd (f (omega arith))
+]
+
+-- ---- bits that are there, from a word
+
+module _ {s : List ℕ} {p m x : ℕ} (w : Word s p m x) where
+  -- the k low ones of the first n + k bits
+  pub word-low : (n k : ℕ) → n + k ≤ m → top (n + k) x % 2 ^ k ≡ bitsValue s (p + n) k
+  word-low n k h = ap (λ (v : ℕ). v % 2 ^ k) (w .is (n + k) h ∙ value-split s p n k) ∙ low (bitsValue s p n) k (value-range s (p + n) k)
+
+  flag-range : 1 ≤ m → top 1 x < 2
+  flag-range h = rw (w .is 1 h) (value-range s p 1)
+
+module _ {s : List ℕ} {p m x : ℕ} (w : Word s p m x) (e : ℕ) where
+  pub word-bits : (n : ℕ) → n ≤ 64 → n ≤ m → p + n ≤ bitLimit s e → bits n s e p ≡ got (top n x) (p + n)
+  word-bits n h k l = bits-there n s e p h (omega arith) ∙ ap (λ (v : ℕ). got v (p + n)) (sym (w .is n k))
+
+  -- n bits, where they are there
+  pub word-present : (there : Bool) (n : ℕ) → n ≤ 64 → n ≤ m → p + presentSpan there n ≤ bitLimit s e → present there (bits n) s e p ≡ got (presentValue there n x) (p + presentSpan there n)
+  unfolding present presentSpan presentValue
+  word-present true n h k l = choose-this true _ _ tt (bind-go (bits n) _ (word-bits n h k l) (give-go s e refl refl))
+  word-present false n h k l = choose-that false _ _ tt (give-go s e refl (omega arith))
+
+  -- a flag and, where it is set, a field of n bits and a bit that is zero
+  pub word-flagged : (f : Reader ℕ) (n : ℕ) → n + 2 ≤ m → m ≤ 64 → flaggedEnds n x ≡ true → p + flaggedSpan n x ≤ bitLimit s e
+      → (bitsValue s (p + 1 + n) 1 ≡ 0 → p + (n + 2) ≤ bitLimit s e → f s e (p + 1) ≡ got (bitsValue s (p + 1) n) (p + (n + 2)))
+      → flagged f s e p ≡ got (flaggedValue n x) (p + flaggedSpan n x)
+  unfolding flagged present flaggedEnds flaggedSpan flaggedValue
+  word-flagged f n h k t l g = by-flag (eqb (top 1 x) 0) refl t l
+    where
+      by-flag : (z : Bool) → eqb (top 1 x) 0 ≡ z → (z || eqb (top (n + 2) x % 2) 0) ≡ true → p + (if z then 1 else n + 2) ≤ bitLimit s e
+          → flagged f s e p ≡ got (if z then Absent else Present (top n (after 1 x))) (p + (if z then 1 else n + 2))
+      by-flag true i t l =
+          let o : top 1 x ≡ 0 = eqb→eq (top 1 x) 0 (T-of i) in
+          bind-go (bits 1) _ (word-bits 1 (lit≤ tt) (omega arith) l) (choose-that _ _ _ (rw o tt) (give-go s e refl refl))
+      by-flag false i t l =
+          let o : top 1 x ≡ 1 = flag-set (top 1 x) (flag-range w (omega arith)) i in
+          let y : p + (n + 1) ≡ p + 1 + n = omega arith in
+          let z : n + 1 + 1 ≡ n + 2 = omega arith in
+          let a : bitsValue s (p + 1 + n) 1 ≡ 0 = ap (λ (q : ℕ). bitsValue s q 1) (sym y) ∙ sym (word-low w (n + 1) 1 (omega arith)) ∙ ap (λ (q : ℕ). top q x % 2) z ∙ eqb→eq (top (n + 2) x % 2) 0 (T-of t) in
+          let b : bitsValue s (p + 1) n ≡ top n (after 1 x) = sym (word-after 1 k (omega arith) w .is n (omega arith)) in
+          bind-go (bits 1) _ (word-bits 1 (lit≤ tt) (omega arith) (omega arith)) (choose-this _ _ _ (rw o tt) (bind-go f _ (g a l) (give-go s e (ap Present b) refl)))
+
+-- ---- the three fields that are flagged
+
+-- a sample offset
+offset-read : (s : List ℕ) (e p : ℕ) {q : ℕ} → bitsValue s (p + 11) 1 ≡ 0 → p + 12 ≡ q → q ≤ bitLimit s e → sampleOffset s e p ≡ got (bitsValue s p 11) q
+unfolding sampleOffset reserved
+offset-read s e p h k l =
+    bind-go (bits 11) _ (bits-there 11 s e p (lit≤ tt) (omega arith))
+    (bind-go (bits 1 >>= λ z. ask (eqb z 0) _) _ (bind-go (bits 1) _ (bits-there 1 s e (p + 11) (lit≤ tt) (omega arith)) (ask-fine _ _ s e (rw h tt) (omega arith)))
+    (give-go s e refl k))
+
+-- a variable field of one group
+pub one-group : (w n : ℕ) (s : List ℕ) (e p : ℕ) {q : ℕ} → 0 < w → w ≤ 63 → bitsValue s (p + w) 1 ≡ 0 → p + (w + 1) ≡ q → q ≤ bitLimit s e → variableBits w (suc n) s e p ≡ got (bitsValue s p w) q
+unfolding variableBits groupsFrom
+one-group w n s e p h k z t l =
+    let f : w ≤ 64 = omega arith in
+    let g : 2 ^ w ≤ 2 ^ 64 = pow-mono f in
+    let fits : 0 + bitsValue s p w < 2 ^ 64 = omega (arith, value-range s p w, g) in
+    ask-go _ _ _ (and _ _ (T-of (le-leb 1 w h)) (and _ _ (T-of (le-leb w 63 k)) (T-of (le-leb 1 (suc n) (omega arith)))))
+    (bind-go (bits w) _ (bits-there w s e p f (omega arith))
+    (ask-go _ _ _ (T-of (lt-ltb _ _ fits))
+    (bind-go (bits 1) _ (bits-there 1 s e (p + w) (lit≤ tt) (omega arith))
+    (choose-this _ _ _ (rw z tt) (give-go s e (omega arith) (omega arith))))))
+
+module _ {s : List ℕ} {p m x : ℕ} (w : Word s p m x) (l : m ≤ 64) (e : ℕ) where
+  offset-found : 13 ≤ m → flaggedEnds 11 x ≡ true → p + flaggedSpan 11 x ≤ bitLimit s e → flagged sampleOffset s e p ≡ got (flaggedValue 11 x) (p + flaggedSpan 11 x)
+  offset-found h t k = word-flagged w e sampleOffset 11 h l t k (λ z j. offset-read s e (p + 1) z (omega arith) j)
+
+  variable-found : (n limit : ℕ) → 0 < n → n ≤ 63 → n + 2 ≤ m → flaggedEnds n x ≡ true → p + flaggedSpan n x ≤ bitLimit s e → flagged (variableBits n (suc limit)) s e p ≡ got (flaggedValue n x) (p + flaggedSpan n x)
+  variable-found n limit a b h t k = word-flagged w e (variableBits n (suc limit)) n h l t k (λ z j. one-group n limit s e (p + 1) a b z (omega arith) j)
+
+  -- the codec data
+  codec-found : 9 ≤ m → codecEnds x ≡ true → p + codecSpan x ≤ bitLimit s e → codecData s e p ≡ got (top 1 x) (p + codecSpan x)
+  unfolding codecData reserved codecEnds codecSpan
+  codec-found h t k = by-flag (eqb (top 1 x) 0) refl t
+    where
+      by-flag : (z : Bool) → eqb (top 1 x) 0 ≡ z → (z || eqb (top 9 x % 2 ^ 8) 0) ≡ true → codecData s e p ≡ got (top 1 x) (p + (1 + 8 * top 1 x))
+      by-flag true i t =
+          let o : top 1 x ≡ 0 = eqb→eq (top 1 x) 0 (T-of i) in
+          bind-go (bits 1) _ (word-bits w e 1 (lit≤ tt) (omega arith) (omega arith))
+          (bind-go (choose _ (give tt) _) _ (choose-this _ _ _ (T-of i) (give-go s e refl refl)) (give-go s e refl (omega arith)))
+      by-flag false i t =
+          let o : top 1 x ≡ 1 = flag-set (top 1 x) (flag-range w (omega arith)) i in
+          let a : bitsValue s (p + 1) 8 ≡ 0 = sym (word-low w 1 8 h) ∙ eqb→eq (top 9 x % 2 ^ 8) 0 (T-of t) in
+          bind-go (bits 1) _ (word-bits w e 1 (lit≤ tt) (omega arith) (omega arith))
+          (bind-go (choose _ (give tt) _) _ (choose-that _ _ _ (T-not-of i) (bind-go (bits 8) _ (bits-there 8 s e (p + 1) (lit≤ tt) (omega arith)) (ask-fine _ _ s e (rw a tt) (omega arith)))) (give-go s e refl refl))
+
+-- ---- the settings from discard on
+
+-- where a field is not there, no word matters
+value-span : (there : Bool) (n k x : ℕ) → presentValue there k (after (presentSpan there n) x) ≡ presentValue there k (after n x)
+unfolding presentSpan presentValue
+value-span true n k x = refl
+value-span false n k x = refl
+
+span-twice : (there : Bool) → presentSpan there 1 + presentSpan there 1 ≡ presentSpan there 2
+unfolding presentSpan
+span-twice true = refl
+span-twice false = refl
+
+-- the spans by the two bits that decide them, which t has both of
+spans-of : (d b t : ℕ) (o : Optional) → d < 2 → b < 2 → t ≡ d * 2 + b
+    → (let aligned : Optional = if hasAligned d o then Present b else Absent in
+    1 + presentSpan (hasAligned d o) 1 + presentSpan (isOne aligned) 2 + presentSpan (hasPriority d o aligned) 5 + presentSpan (hasPriority d o aligned) 2)
+    ≡ (if eqb d 1 then 1 else (if isPresent o then 8 else (if eqb t 0 then 2 else 11)))
+unfolding presentSpan hasAligned hasPriority isOne isPresent _&_
+spans-of zero zero t Absent h k e = rw e
+spans-of zero (suc zero) t Absent h k e = rw e
+spans-of zero b t (Present v) h k e = refl
+spans-of (suc zero) b t o h k e = refl
+spans-of zero (suc (suc b)) t Absent h k e = absurd (omega arith)
+spans-of (suc (suc d)) b t o h k e = absurd (omega arith)
+
+span-most : (t : Bool) (n : ℕ) → presentSpan t n ≤ n
+unfolding presentSpan
+span-most true n = omega arith
+span-most false n = omega arith
+
+module _ {s : List ℕ} {p m x : ℕ} (w : Word s p m x) (l : m ≤ 64) (h : 11 ≤ m) (o : Optional) where
+  abbrev there : Bool
+  there = hasAligned (top 1 x) o
+
+  abbrev aligned : Optional
+  aligned = presentValue there 1 (after 1 x)
+
+  abbrev kept : Bool
+  kept = isOne aligned
+
+  abbrev ranked : Bool
+  ranked = hasPriority (top 1 x) o aligned
+
+  -- the word where aligned is set, and its second bit
+  second : top 2 x ≡ top 1 x * 2 + top 1 (after 1 x)
+  second =
+      w .is 2 (omega arith) ∙ value-split s p 1 1
+      ∙ let a : bitsValue s p 1 ≡ top 1 x = sym (w .is 1 (omega arith)) in
+        let b : bitsValue s (p + 1) 1 ≡ top 1 (after 1 x) = sym (word-after 1 l (omega arith) w .is 1 (omega arith)) in
+        rw (a, b)
+
+  after-discard : Word s (p + 1) (m - 1) (after 1 x)
+  after-discard = word-after 1 l (omega arith) w
+
+  spans : 1 + presentSpan there 1 + presentSpan kept 2 + presentSpan ranked 5 + presentSpan ranked 2 ≡ controlsSpan (isPresent o) x
+  unfolding controlsSpan presentValue
+  spans = spans-of (top 1 x) (top 1 (after 1 x)) (top 2 x) o (flag-range w (omega arith)) (flag-range after-discard (omega arith)) second
+
+  -- past aligned, past create, past remove, past priority
+  abbrev y : ℕ
+  y = after (presentSpan there 1) (after 1 x)
+
+  abbrev z : ℕ
+  z = after (presentSpan kept 2) y
+
+  abbrev q : ℕ
+  q = p + 1 + presentSpan there 1
+
+  past-aligned : Word s q (m - 1 - presentSpan there 1) y
+  past-aligned = word-after (presentSpan there 1) (omega arith) (omega (arith, span-most there 1)) after-discard
+
+  past-create : Word s (q + presentSpan kept 1) (m - 1 - presentSpan there 1 - presentSpan kept 1) (after (presentSpan kept 1) y)
+  past-create = word-after (presentSpan kept 1) (omega arith) (omega (arith, span-most there 1, span-most kept 1)) past-aligned
+
+  past-remove : Word s (q + presentSpan kept 1 + presentSpan kept 1) (m - 1 - presentSpan there 1 - presentSpan kept 2) z
+  past-remove =
+      let i : q + presentSpan kept 1 + presentSpan kept 1 ≡ q + presentSpan kept 2 = omega (arith, span-twice kept) in
+      rw i (word-after (presentSpan kept 2) (omega arith) (omega (arith, span-most there 1, span-most kept 2)) past-aligned)
+
+  past-priority : Word s (q + presentSpan kept 1 + presentSpan kept 1 + presentSpan ranked 5) (m - 1 - presentSpan there 1 - presentSpan kept 2 - presentSpan ranked 5) (after (presentSpan ranked 5) z)
+  past-priority = word-after (presentSpan ranked 5) (omega arith) (omega (arith, span-most there 1, span-most kept 2, span-most ranked 5)) past-remove
+
+  pub controls-found : (e : ℕ) (duration group : Optional) (codec : ℕ) → p + controlsSpan (isPresent o) x ≤ bitLimit s e
+      → configControls o duration group codec (top 1 x) s e (p + 1) ≡ got (compactControls o duration group codec x) (p + controlsSpan (isPresent o) x)
+  unfolding configControls compactControls
+  controls-found e duration group codec k =
+      let a = span-most there 1 in
+      let b = span-most kept 2 in
+      let c = span-most ranked 5 in
+      let t = span-twice kept in
+      bind-go (present there (bits 1)) _ (word-present after-discard e there 1 (lit≤ tt) (omega arith) (omega (arith, spans)))
+      (bind-go (present kept (bits 1)) _ (word-present past-aligned e kept 1 (lit≤ tt) (omega (arith, a)) (omega (arith, spans, t)))
+      (bind-go (present kept (bits 1)) _ (word-present past-create e kept 1 (lit≤ tt) (omega (arith, a, span-most kept 1)) (omega (arith, spans, t)))
+      (bind-go (present ranked (bits 5)) _ (word-present past-remove e ranked 5 (lit≤ tt) (omega (arith, a, b)) (omega (arith, spans, t)))
+      (bind-go (present ranked (bits 2)) _ (word-present past-priority e ranked 2 (lit≤ tt) (omega (arith, a, b, c)) (omega (arith, spans, t)))
+      (give-go s e (rw (value-span kept 1 1 y, value-span ranked 5 2 z)) (omega (arith, spans, t)))))))
+
+pub controls-range : (t : Bool) (x : ℕ) → (1 ≤ controlsSpan t x) × (controlsSpan t x ≤ 11)
+unfolding controlsSpan
+controls-range t x = go (eqb (top 1 x) 1) t (eqb (top 2 x) 0)
+  where
+    go : (i j k : Bool) → (1 ≤ (if i then 1 else (if j then 8 else (if k then 2 else 11)))) × ((if i then 1 else (if j then 8 else (if k then 2 else 11))) ≤ 11)
+    go true j k = (omega arith, omega arith)
+    go false true k = (omega arith, omega arith)
+    go false false true = (omega arith, omega arith)
+    go false false false = (omega arith, omega arith)
+
+-- ---- all of the settings
+
+flagged-most : (n x : ℕ) → flaggedSpan n x ≤ n + 2
+unfolding flaggedSpan
+flagged-most n x = go (eqb (top 1 x) 0)
+  where
+    go : (t : Bool) → (if t then 1 else n + 2) ≤ n + 2
+    go true = omega arith
+    go false = omega arith
+
+codec-most : (x : ℕ) → codecSpan (afterGroup x) ≤ 9
+unfolding codecSpan
+codec-most x = let y = afterTiming x in let f : top 1 (after (flaggedSpan 2 y) y) < 2 = omega arith in omega (arith, f)
+
+pub config-most : (x : ℕ) → compactSettings x ≡ true → configLength x ≤ 50
+unfolding configLength
+config-most x t =
+    let i : configLength x ≡ flaggedSpan 11 x + flaggedSpan 11 (flaggedAfter 11 x) + flaggedSpan 2 (afterTiming x) + codecSpan (afterGroup x) + controlsSpan (isPresent (flaggedValue 11 x)) (afterCodec x) = rw t in
+    omega (arith, i, flagged-most 11 x, flagged-most 11 (flaggedAfter 11 x), flagged-most 2 (afterTiming x), codec-most x, controls-range (isPresent (flaggedValue 11 x)) (afterCodec x) .1)
+
+module _ {s : List ℕ} {p m x : ℕ} (w : Word s p m x) (l : m ≤ 64) (h : 50 ≤ m) where
+  abbrev a : ℕ
+  a = flaggedSpan 11 x
+
+  abbrev b : ℕ
+  b = flaggedSpan 11 (flaggedAfter 11 x)
+
+  abbrev c : ℕ
+  c = flaggedSpan 2 (afterTiming x)
+
+  abbrev d : ℕ
+  d = codecSpan (afterGroup x)
+
+  after-offset : Word s (p + a) (m - a) (flaggedAfter 11 x)
+  after-offset = word-after a l (omega (arith, flagged-most 11 x)) w
+
+  after-duration : Word s (p + a + b) (m - a - b) (afterTiming x)
+  after-duration = word-after b (omega arith) (omega (arith, flagged-most 11 x, flagged-most 11 (flaggedAfter 11 x))) after-offset
+
+  after-group : Word s (p + a + b + c) (m - a - b - c) (afterGroup x)
+  after-group = word-after c (omega arith) (omega (arith, flagged-most 11 x, flagged-most 11 (flaggedAfter 11 x), flagged-most 2 (afterTiming x))) after-duration
+
+  after-codec : Word s (p + a + b + c + d) (m - a - b - c - d) (afterCodec x)
+  after-codec = word-after d (omega arith) (omega (arith, flagged-most 11 x, flagged-most 11 (flaggedAfter 11 x), flagged-most 2 (afterTiming x), codec-most x)) after-group
+
+  pub config-found : (e : ℕ) → compactSettings x ≡ true → p + configLength x ≤ bitLimit s e → payloadConfig s e p ≡ got (compactConfig x) (p + configLength x)
+  unfolding payloadConfig compactConfig compactSettings configLength
+  config-found e t k =
+      let u = flagged-most 11 x in
+      let v = flagged-most 11 (flaggedAfter 11 x) in
+      let r = flagged-most 2 (afterTiming x) in
+      let i : configLength x ≡ a + b + c + d + controlsSpan (isPresent (flaggedValue 11 x)) (afterCodec x) = rw t in
+      let j : p + configLength x ≡ p + a + b + c + d + controlsSpan (isPresent (flaggedValue 11 x)) (afterCodec x) = omega (arith, i) in
+      fits (both (T-of t)) λ t₁ t₂₃₄.
+      fits (both t₂₃₄) λ t₂ t₃₄.
+      fits (both t₃₄) λ t₃ t₄.
+      rw j
+      (bind-go (flagged sampleOffset) _ (offset-found w l e (omega arith) (is-true _ t₁) (omega (arith, i)))
+      (bind-go (flagged (variableBits 11 2)) _ (variable-found after-offset (omega arith) e 11 1 (lit< tt) (lit≤ tt) (omega (arith, u)) (is-true _ t₂) (omega (arith, i)))
+      (bind-go (flagged (variableBits 2 31)) _ (variable-found after-duration (omega arith) e 2 30 (lit< tt) (lit≤ tt) (omega (arith, u, v)) (is-true _ t₃) (omega (arith, i)))
+      (bind-go codecData _ (codec-found after-group (omega arith) e (omega (arith, u, v, r)) (is-true _ t₄) (omega (arith, i)))
+      (bind-go (bits 1) _ (word-bits after-codec e 1 (lit≤ tt) (omega (arith, u, v, r, codec-most x)) (omega (arith, j, controls-range (isPresent (flaggedValue 11 x)) (afterCodec x) .0)))
+      (controls-found after-codec (omega arith) (omega (arith, u, v, r, codec-most x)) (flaggedValue 11 x) e _ _ _ (omega (arith, j))))))))
+
+-- ---- an id and a size
+
+-- a size of two groups
+two-groups : (s : List ℕ) (e p : ℕ) → bitsValue s (p + 8) 1 ≡ 1 → bitsValue s (p + 8 + 1 + 8) 1 ≡ 0 → p + 18 ≤ bitLimit s e
+    → variableBits 8 2 s e p ≡ got (bitsValue s p 8 * 2 ^ 8 + 2 ^ 8 + bitsValue s (p + 8 + 1) 8) (p + 18)
+unfolding variableBits groupsFrom _&_
+two-groups s e p h z l =
+    let a = value-range s p 8 in
+    let b = value-range s (p + 8 + 1) 8 in
+    let first : 0 + bitsValue s p 8 < 2 ^ 64 = omega (arith, a) in
+    let start : (0 + bitsValue s p 8) * 2 ^ 8 + 2 ^ 8 < 2 ^ 64 = omega (arith, a) in
+    let second : (0 + bitsValue s p 8) * 2 ^ 8 + 2 ^ 8 + bitsValue s (p + 8 + 1) 8 < 2 ^ 64 = omega (arith, a, b) in
+    ask-go _ _ _ tt
+    (bind-go (bits 8) _ (bits-there 8 s e p (lit≤ tt) (omega arith))
+    (ask-go _ _ _ (T-of (lt-ltb _ _ first))
+    (bind-go (bits 1) _ (bits-there 1 s e (p + 8) (lit≤ tt) (omega arith))
+    (choose-that _ _ _ (rw h tt)
+    (ask-go _ _ _ tt
+    (ask-go _ _ _ (T-of (lt-ltb _ _ start))
+    (bind-go (bits 8) _ (bits-there 8 s e (p + 8 + 1) (lit≤ tt) (omega arith))
+    (ask-go _ _ _ (T-of (lt-ltb _ _ second))
+    (bind-go (bits 1) _ (bits-there 1 s e (p + 8 + 1 + 8) (lit≤ tt) (omega arith))
+    (choose-this _ _ _ (rw z tt) (give-go s e (omega arith) (omega arith))))))))))))
+
+module _ {s : List ℕ} {p m x : ℕ} (w : Word s p m x) (l : m ≤ 64) (e : ℕ) where
+  -- an id below the escape
+  pub id-found : 5 ≤ m → eqb (top 5 x) 31 ≡ false → p + 5 ≤ bitLimit s e → extendedValue 5 s e p ≡ got (top 5 x) (p + 5)
+  unfolding extendedValue escape
+  id-found h t k = bind-go (bits 5) _ (word-bits w e 5 (lit≤ tt) h k) (choose-that _ _ _ (T-not-of t) (give-go s e refl refl))
+
+  pub size-found : 18 ≤ m → 0 < sizeLength x → p + sizeLength x ≤ bitLimit s e → variableBits 8 2 s e p ≡ got (sizeValue x) (p + sizeLength x)
+  unfolding sizeLength sizeValue
+  size-found h k j = by-first (eqb (top 9 x % 2) 0) refl (eqb (top 18 x % 2) 0) refl k j
+    where
+      by-first : (t : Bool) → eqb (top 9 x % 2) 0 ≡ t → (u : Bool) → eqb (top 18 x % 2) 0 ≡ u → 0 < (if t then 9 else (if u then 18 else 0)) → p + (if t then 9 else (if u then 18 else 0)) ≤ bitLimit s e
+          → variableBits 8 2 s e p ≡ got (if t then top 8 x else top 8 x * 2 ^ 8 + 2 ^ 8 + top 17 x % 2 ^ 8) (p + (if t then 9 else (if u then 18 else 0)))
+      by-first true i u f k j =
+          let a : bitsValue s (p + 8) 1 ≡ 0 = sym (word-low w 8 1 (omega arith)) ∙ eqb→eq (top 9 x % 2) 0 (T-of i) in
+          one-group 8 1 s e p (lit< tt) (lit≤ tt) a refl j ∙ ap (λ (v : ℕ). got v (p + 9)) (sym (w .is 8 (omega arith)))
+      by-first false i true f k j =
+          let a : bitsValue s (p + 8) 1 ≡ 1 = flag-set (bitsValue s (p + 8) 1) (value-range s (p + 8) 1) (rw (word-low w 8 1 (omega arith)) at i) in
+          let b : bitsValue s (p + 17) 1 ≡ 0 = sym (word-low w 17 1 (omega arith)) ∙ eqb→eq (top 18 x % 2) 0 (T-of f) in
+          let c : p + 17 ≡ p + 8 + 1 + 8 = omega arith in
+          let d : p + 9 ≡ p + 8 + 1 = omega arith in
+          let f₁ : bitsValue s p 8 ≡ top 8 x = sym (w .is 8 (omega arith)) in
+          let f₂ : bitsValue s (p + 8 + 1) 8 ≡ top 17 x % 2 ^ 8 = ap (λ (q : ℕ). bitsValue s q 8) (sym d) ∙ sym (word-low w 9 8 (omega arith)) in
+          two-groups s e p a (ap (λ (q : ℕ). bitsValue s q 1) (sym c) ∙ b) j ∙ rw (f₁, f₂)
+      by-first false i false f k j = absurd (omega arith)
+
+-- ---- what a head's length says
+
+pub record Head (x : ℕ) : Type 0 where
+  pub low : eqb (top 5 x) 31 ≡ false
+  pub compact : compactSettings (after 5 x) ≡ true
+  pub length : headLength x ≡ 5 + configLength (after 5 x)
+
+pub head-of : (x : ℕ) → eqb (top 5 x) 0 ≡ false → 0 < headLength x → Head x
+unfolding headLength configLength
+head-of x z h = go (eqb (top 5 x) 31) refl (compactSettings (after 5 x)) refl
+  where
+    go : (i : Bool) → eqb (top 5 x) 31 ≡ i → (j : Bool) → compactSettings (after 5 x) ≡ j → Head x
+    go true i j t = absurd (let f = rw (z, i) at h in omega (arith, f))
+    go false i false t = absurd (let f = rw (z, i, t) at h in omega (arith, f))
+    go false i true t =
+        let n = config-most (after 5 x) t in
+        let f : eqb (configLength (after 5 x)) 64 ≡ false = ne-eqb (configLength (after 5 x)) 64 (λ (q : configLength (after 5 x) ≡ 64). omega (arith, n, q)) in
+        record { low = i; compact = t; length = rw (z, i, f) }
