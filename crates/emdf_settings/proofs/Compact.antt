@@ -20,7 +20,7 @@ use Rattle.emdf_format.specs.declared.Optional.{Optional}
 use Rattle.emdf_format.specs.declared.Optional.the-variants.{Absent, Present}
 use Rattle.emdf_format.proofs.Standing.{bitLimit, bind-go, ask-go, choose-this, choose-that, give-go, ask-fine, T-of, T-not-of, neqb→ne, and, both, fits, is-true}
 use Rattle.emdf_format.proofs.Loops.{bits-there}
-use Rattle.emdf_settings.specs.Words.{top, after, headLength, sizeLength, sizeValue, codecSpan, codecEnds, controlsSpan, compactControls, flaggedAfter, afterTiming, afterGroup, afterCodec, compactSettings, compactConfig, configLength,  flaggedSpan, flaggedValue, flaggedEnds, presentSpan, presentValue}
+use Rattle.emdf_settings.specs.Words.{top, after, headLength, sizeLength, sizeValue, codecSpan, codecEnds, controlsSpan, compactControls, flaggedAfter, afterTiming, afterGroup, afterCodec, compactSettings, compactConfig, configLength, flaggedSpan, flaggedValue, flaggedEnds, presentSpan, presentValue}
 
 -- ---- a word
 
@@ -185,8 +185,8 @@ module _ {s : List ℕ} {p m x : ℕ} (w : Word s p m x) (l : m ≤ 64) (h : 11 
   second =
       w .is 2 (omega arith) ∙ value-split s p 1 1
       ∙ let a : bitsValue s p 1 ≡ top 1 x = sym (w .is 1 (omega arith)) in
-        let b : bitsValue s (p + 1) 1 ≡ top 1 (after 1 x) = sym (word-after 1 l (omega arith) w .is 1 (omega arith)) in
-        rw (a, b)
+      let b : bitsValue s (p + 1) 1 ≡ top 1 (after 1 x) = sym (word-after 1 l (omega arith) w .is 1 (omega arith)) in
+      rw (a, b)
 
   after-discard : Word s (p + 1) (m - 1) (after 1 x)
   after-discard = word-after 1 l (omega arith) w
@@ -364,6 +364,10 @@ pub record Head (x : ℕ) : Type 0 where
   pub compact : compactSettings (after 5 x) ≡ true
   pub length : headLength x ≡ 5 + configLength (after 5 x)
 
+pub head-end : (x : ℕ) → eqb (top 5 x) 0 ≡ true → headLength x ≡ 5
+unfolding headLength
+head-end x z = rw z
+
 pub head-of : (x : ℕ) → eqb (top 5 x) 0 ≡ false → 0 < headLength x → Head x
 unfolding headLength configLength
 head-of x z h = go (eqb (top 5 x) 31) refl (compactSettings (after 5 x)) refl
@@ -375,3 +379,32 @@ head-of x z h = go (eqb (top 5 x) 31) refl (compactSettings (after 5 x)) refl
         let n = config-most (after 5 x) t in
         let f : eqb (configLength (after 5 x)) 64 ≡ false = ne-eqb (configLength (after 5 x)) 64 (λ (q : configLength (after 5 x) ≡ 64). omega (arith, n, q)) in
         record { low = i; compact = t; length = rw (z, i, f) }
+
+-- ---- how much there can be
+
+pub head-most : (x : ℕ) → headLength x ≤ 55
+head-most x = by-id (eqb (top 5 x) 0) refl
+  where
+    by-id : (t : Bool) → eqb (top 5 x) 0 ≡ t → headLength x ≤ 55
+    by-id true z = omega (arith, head-end x z)
+    by-id false z = elim (decLe 1 (headLength x)) [
+      | yes k ↦ let d = head-of x z k in omega (arith, d .length, config-most (after 5 x) (d .compact))
+      | no k ↦ omega arith
+    ]
+
+pub size-most : (x : ℕ) → sizeLength x ≤ 18
+unfolding sizeLength
+size-most x = go (eqb (top 9 x % 2) 0) (eqb (top 18 x % 2) 0)
+  where
+    go : (t u : Bool) → (if t then 9 else (if u then 18 else 0)) ≤ 18
+    go true u = omega arith
+    go false true = omega arith
+    go false false = omega arith
+
+pub value-most : (x : ℕ) → x < 2 ^ 64 → sizeValue x < 2 ^ 17
+unfolding sizeValue
+value-most x l = go (eqb (top 9 x % 2) 0)
+  where
+    go : (t : Bool) → (if t then top 8 x else top 8 x * 2 ^ 8 + 2 ^ 8 + top 17 x % 2 ^ 8) < 2 ^ 17
+    go true = omega arith
+    go false = omega arith

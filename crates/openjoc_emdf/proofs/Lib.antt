@@ -5,3 +5,4 @@ pub mod Octets
 pub mod Ends
 pub mod Header
 pub mod Walk
+pub mod Compact

@@ -9,6 +9,7 @@ ghost use Rattle.emdf_format.specs.Calls.{classify};
 ghost use mathlib.Core.List.{List};
 ghost use lib.ListN.{length};
 ghost use Rattle.openjoc_bitio.specs.Cursor.{bitsRemaining};
+ghost use Rattle.openjoc_emdf.specs.Compact.{compactLength, compactStep, recordAt};
 ghost use Rattle.openjoc_emdf.specs.Answers.{fieldAnswer, groupAnswer, startAnswer, refusedGroup, oneGroup, optionalAnswer, configAnswer, cursorAnswer, payloadAnswer, turnAnswer, nextPayload, skipOf, countFrom, bytesAnswer, valueThere, paddingAnswer, containerAnswer, parseAnswer, parsedOf, classAnswer, classifiedOf, reachedBy, firstPayload, openAnswer, parseError, countError, bytesError, paddingError, fieldError, optionalError, configError, cursorError};
 use emdf_format::EmdfError;
 use emdf_format::EmdfPayloadBitTrace;
@@ -525,6 +526,101 @@ fn bit_trace(id: usize, config: usize, size: usize, body: usize, end: usize) -> 
 pub fn next_payload(s: &[u8], c: BitCursor) -> PayloadStep
     ensures { λ r. ⌜ r ≡ turnAnswer (c .end) (nextPayload (now (s .entry)) (c .end) (c .position)) ⌝ }
 {
+    let position = c.position;
+    let end = c.end;
+    let n = compact_there(s, position, end);
+    if n == 0 {
+        return payload_by_fields(s, BitCursor { position, end });
+    }
+    let next = BitCursor {
+        position: position + n,
+        end,
+    };
+    if openjoc_bitio::window_at(s, position) >> 59 == 0 {
+        return PayloadStep::End(next);
+    }
+    PayloadStep::Payload(compact_record(s, position, n), next)
+}
+
+// Past the next payload, for a caller who wants no record of it.
+pub fn skip_payload(s: &[u8], c: BitCursor) -> SkipStep
+    ensures { λ r. ⌜ r ≡ skipOf (turnAnswer (c .end) (nextPayload (now (s .entry)) (c .end) (c .position))) ⌝ }
+{
+    let position = c.position;
+    let end = c.end;
+    let n = compact_there(s, position, end);
+    if n == 0 {
+        return skipped(payload_by_fields(s, BitCursor { position, end }));
+    }
+    let next = BitCursor {
+        position: position + n,
+        end,
+    };
+    let id = openjoc_bitio::window_at(s, position) >> 59;
+    if id == 0 {
+        return SkipStep::End(next);
+    }
+    SkipStep::Past(id, next)
+}
+
+// How many bits the end mark or a compact payload takes that stands at a position, all of it before the end. 0 where
+// something else stands there.
+fn compact_there(s: &[u8], position: usize, end: usize) -> usize
+    ensures { λ r. ⌜ (0 < r → turnAnswer end (nextPayload (now (s .entry)) end position) ≡ compactStep (now (s .entry)) end position r) × (0 < r → position < 2 ^ 61) × (position + r < 2 ^ 64) ⌝ }
+{
+    // So that no sum of positions is too large.
+    if 0x2000_0000_0000_0000 <= position {
+        return 0;
+    }
+    let n = compact_length(s, position);
+    let c = BitCursor { position, end };
+    if c.bits_remaining(s) < n {
+        return 0;
+    }
+    n
+}
+
+// The same wherever the end is.
+fn compact_length(s: &[u8], position: usize) -> usize
+    requires { ⌜ position < 2 ^ 61 ⌝ }
+    ensures { λ r. ⌜ r ≡ compactLength (now (s .entry)) position ⌝ }
+{
+    let x = openjoc_bitio::window_at(s, position);
+    let head = emdf_settings::head_length(x) as usize;
+    if head == 0 {
+        return 0;
+    }
+    if x >> 59 == 0 {
+        return head;
+    }
+    let y = openjoc_bitio::window_at(s, position + head);
+    let size = emdf_settings::size_length(y) as usize;
+    if size == 0 {
+        return 0;
+    }
+    head + size + (emdf_settings::size_value(y) as usize) * 8
+}
+
+// What is recorded of a compact payload of n bits.
+fn compact_record(s: &[u8], position: usize, n: usize) -> PayloadRecord
+    requires { ⌜ (position < 2 ^ 61) × (position + n < 2 ^ 64) ⌝ }
+    ensures { λ r. ⌜ r ≡ recordAt (now (s .entry)) position n ⌝ }
+{
+    let x = openjoc_bitio::window_at(s, position);
+    let size = position + emdf_settings::head_length(x) as usize;
+    let y = openjoc_bitio::window_at(s, size);
+    let body = size + emdf_settings::size_length(y) as usize;
+    PayloadRecord {
+        id: x >> 59,
+        config: emdf_settings::compact_config(x << 5),
+        trace: bit_trace(position, position + 5, size, body, position + n),
+    }
+}
+
+// The next payload, or the end of the list, field by field.
+fn payload_by_fields(s: &[u8], c: BitCursor) -> PayloadStep
+    ensures { λ r. ⌜ r ≡ turnAnswer (c .end) (nextPayload (now (s .entry)) (c .end) (c .position)) ⌝ }
+{
     let start = c.position;
     let a = extended_value(s, c, 31, 5);
     let FieldAnswer::Value(id, c1) = a else {
@@ -534,13 +630,6 @@ pub fn next_payload(s: &[u8], c: BitCursor) -> PayloadStep
         return PayloadStep::End(c1);
     }
     payload_after(s, c1, start, id)
-}
-
-// Past the next payload, for a caller who wants no record of it.
-pub fn skip_payload(s: &[u8], c: BitCursor) -> SkipStep
-    ensures { λ r. ⌜ r ≡ skipOf (turnAnswer (c .end) (nextPayload (now (s .entry)) (c .end) (c .position))) ⌝ }
-{
-    skipped(next_payload(s, c))
 }
 
 fn skipped(step: PayloadStep) -> SkipStep
@@ -560,16 +649,16 @@ fn count_payloads(s: &[u8], c: BitCursor) -> CountAnswer
     let mut count: usize = 0;
     let mut at = c;
     loop {
-        let step = next_payload(s, at);
+        let step = skip_payload(s, at);
         match step {
-            PayloadStep::Payload(_, next) => {
+            SkipStep::Past(_, next) => {
                 count += 1;
                 at = next;
             }
-            PayloadStep::End(next) => {
+            SkipStep::End(next) => {
                 return CountAnswer::Counted(count, next);
             }
-            PayloadStep::Refused(why) => {
+            SkipStep::Refused(why) => {
                 return CountAnswer::Refused(why);
             }
         }

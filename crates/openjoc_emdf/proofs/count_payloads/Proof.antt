@@ -7,6 +7,7 @@ use Rattle.openjoc_bitio.specs.Cursor.{bitsRemaining}
 use Rattle.emdf_format.specs.Reading.{payloads}
 use Rattle.openjoc_emdf.specs.Answers.{countFrom}
 use Rattle.openjoc_emdf.proofs.Turns.{at-end, at-refused, at-payload}
+use Rattle.openjoc_emdf.proofs.Walk.{skip-past, skip-end, skip-refused}
 use Rattle.openjoc_emdf.proofs.count_payloads.Statement.{statement}
 use Rattle.openjoc_emdf.proofs.count_payloads.Tie as tie
 
@@ -19,34 +20,34 @@ abbrev μ-loop : tie.MeasureT-loop
 loop-holds : tie.Need-loop-holds Inv-loop μ-loop
 loop-holds c = (omega arith, refl)
 
-next-payload-requires : tie.Need-next-payload-requires Inv-loop μ-loop
-next-payload-requires c κs = tt
+skip-payload-requires : tie.Need-skip-payload-requires Inv-loop μ-loop
+skip-payload-requires c κs = tt
 
 enum-known-step : tie.Need-enum-known-step Inv-loop μ-loop
 enum-known-step c = search needs
 
 add-count : tie.Need-add-count Inv-loop μ-loop
-add-count c = omega (arith, at-payload (c .before .before .before .before .loop .count) (now (c .before .before .before .before .before .before .args .s)) (c .before .before .before .before .loop .at) (sym (c .before .before .before .next-payload .ensures) ∙ c .before .step .given .1) .moves)
+add-count c = omega (arith, at-payload (c .before .before .before .before .loop .count) (now (c .before .before .before .before .before .before .args .s)) (c .before .before .before .before .loop .at) (skip-past _ (sym (c .before .before .before .skip-payload .ensures) ∙ c .before .step .given .1) .1) .moves)
 
 loop-less : tie.Need-loop-less Inv-loop μ-loop
-loop-less c = at-payload (c .before .before .before .before .loop .count) _ _ (sym (c .before .before .before .next-payload .ensures) ∙ c .before .step .given .1) .less
+loop-less c = at-payload (c .before .before .before .before .loop .count) _ _ (skip-past _ (sym (c .before .before .before .skip-payload .ensures) ∙ c .before .step .given .1) .1) .less
 
 loop-again : tie.Need-loop-again Inv-loop μ-loop
 loop-again c =
-    let m = at-payload (c .before .before .before .before .loop .count) _ _ (sym (c .before .before .before .next-payload .ensures) ∙ c .before .step .given .1) in
+    let m = at-payload (c .before .before .before .before .loop .count) _ _ (skip-past _ (sym (c .before .before .before .skip-payload .ensures) ∙ c .before .step .given .1) .1) in
     (omega (arith, m .moves), m .left ∙ c .before .before .before .before .loop .inv .1)
 
 enum-known-step-2 : tie.Need-enum-known-step-2 Inv-loop μ-loop
 enum-known-step-2 c = search needs
 
 returns : tie.Need-returns Inv-loop μ-loop
-returns c = at-end _ _ _ (sym (c .before .before .before .next-payload .ensures) ∙ c .before .step2 .given .1) ∙ c .before .before .before .before .loop .inv .1
+returns c = at-end _ _ _ (skip-end _ (sym (c .before .before .before .skip-payload .ensures) ∙ c .before .step2 .given .1)) ∙ c .before .before .before .before .loop .inv .1
 
 enum-known-step-3 : tie.Need-enum-known-step-3 Inv-loop μ-loop
 enum-known-step-3 c = search needs
 
 returns-2 : tie.Need-returns-2 Inv-loop μ-loop
-returns-2 c = at-refused _ _ _ (sym (c .before .before .before .next-payload .ensures) ∙ c .before .step3 .given .1) ∙ c .before .before .before .before .loop .inv .1
+returns-2 c = at-refused _ _ _ (skip-refused _ (sym (c .before .before .before .skip-payload .ensures) ∙ c .before .step3 .given .1)) ∙ c .before .before .before .before .loop .inv .1
 
 pub count-payloads-spec : {M : Type 1} → statement M
 count-payloads-spec =
@@ -55,7 +56,7 @@ count-payloads-spec =
     Inv-loop
     μ-loop
     loop-holds
-    next-payload-requires
+    skip-payload-requires
     enum-known-step
     add-count
     loop-less

@@ -1,53 +1,56 @@
 use borrow.Author.Needs.{needs}
-use mathlib.Core.Path.{refl, sym, _∙_}
-use lib.Dec.{lit<}
 use borrow.Author.Tests.{eq-eqb, ne-eqb}
-use Rattle.emdf_format.proofs.Standing.{T-of, T-not-of}
-use Rattle.emdf_format.specs.Syntax.{escape}
-use Rattle.emdf_format.specs.Reader.{give}
-use Rattle.openjoc_emdf.specs.Answers.{nextPayload, turnAnswer, turnFound}
-use Rattle.openjoc_emdf.specs.declared.PayloadStep.the-variants.{Refused}
-use Rattle.openjoc_emdf.proofs.Answers.{field-found, via, here, this, that, by-field, turn-refuses, turn-payload}
+use mathlib.Core.Path.{_≡_, sym, ap, _∙_}
+use Prim.Native.Nat.{ℕ, _<_, _/_, _^_}
+use native.Mathlib.Omega.{arith}
+use denote.Ref.{now}
+use Rattle.openjoc_emdf.specs.Compact.{compactStep, headAt}
 use Rattle.openjoc_emdf.proofs.next_payload.Statement.{statement}
 use Rattle.openjoc_emdf.proofs.next_payload.Tie as tie
 
-extended-value-requires : tie.Need-extended-value-requires
-unfolding escape
-extended-value-requires c κs = (lit< tt, refl)
+compact-there-requires : tie.Need-compact-there-requires
+compact-there-requires c κs = search needs
 
-enum-known-a : tie.Need-enum-known-a
-enum-known-a c = search needs
-
-enum-told : tie.Need-enum-told
-enum-told c = search needs
-
-field-error-requires : tie.Need-field-error-requires
-field-error-requires c κs = search needs
+payload-by-fields-requires : tie.Need-payload-by-fields-requires
+payload-by-fields-requires c κs = search needs
 
 returns : tie.Need-returns
-unfolding nextPayload turnAnswer turnFound give
-returns c = here turnAnswer _ _ _ _ (by-field turnAnswer Refused turn-refuses _ _ _ _ _ (c .before .before .before .extended-value .ensures) (c .before .enum-told .given .1) (c .field-error .ensures))
+returns c = search needs
+
+add-t9 : tie.Need-add-t9
+add-t9 c = search needs
+
+window-at-requires : tie.Need-window-at-requires
+window-at-requires c κs = search needs
 
 returns-2 : tie.Need-returns-2
-unfolding nextPayload turnAnswer turnFound give
-returns-2 c = here turnAnswer _ _ _ _ (via turnAnswer _ _ _ _ _ (field-found _ (sym (c .before .before .before .before .extended-value .ensures) ∙ c .before .before .a .given .1)) (this turnAnswer _ _ _ _ _ _ (T-of (eq-eqb _ _ (c .if1 .taken))) refl))
+unfolding compactStep
+returns-2 c =
+    let a = c .before .before .before .before .before .args in
+    let t : headAt (now (a .s)) (a .c .position) / 2 ^ 59 ≡ 0 = ap (λ (x : ℕ). x / 2 ^ 59) (sym (c .before .window-at .ensures)) ∙ c .if2 .taken in
+    sym (c .before .before .before .compact-there .ensures .0 (omega arith) ∙ rw (eq-eqb _ 0 t))
 
-payload-after-requires : tie.Need-payload-after-requires
-payload-after-requires c κs = search needs
+compact-record-requires : tie.Need-compact-record-requires
+compact-record-requires c κs =
+    let n = c .before .before .before .compact-there .ensures in
+    (n .1 (omega arith), n .2)
 
 returns-3 : tie.Need-returns-3
-unfolding nextPayload turnAnswer turnFound give
-returns-3 c = here turnAnswer _ _ _ _ (via turnAnswer _ _ _ _ _ (field-found _ (sym (c .before .before .before .before .before .extended-value .ensures) ∙ c .before .before .before .a .given .1)) (that turnAnswer _ _ _ _ _ _ (T-not-of (ne-eqb _ _ (c .before .if1 .left))) (turn-payload _ _ _ _ (c .payload-after .ensures))))
+unfolding compactStep
+returns-3 c =
+    let a = c .before .before .before .before .before .before .args in
+    let t : headAt (now (a .s)) (a .c .position) / 2 ^ 59 ≡ 0 → ⊥ = λ z. c .before .if2 .left (ap (λ (x : ℕ). x / 2 ^ 59) (c .before .before .window-at .ensures) ∙ z) in
+    rw (c .compact-record .ensures) (sym (c .before .before .before .before .compact-there .ensures .0 (omega arith) ∙ rw (ne-eqb _ 0 t)))
 
 pub next-payload-spec : {M : Type 1} → statement M
 next-payload-spec =
     tie.close
     (tie.spec
-    extended-value-requires
-    enum-known-a
-    enum-told
-    field-error-requires
+    compact-there-requires
+    payload-by-fields-requires
     returns
+    add-t9
+    window-at-requires
     returns-2
-    payload-after-requires
+    compact-record-requires
     returns-3)
