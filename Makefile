@@ -1,4 +1,4 @@
-# make test        every test: the comparison with the Rust original, the runs of emdfcheck, jocverdict, emdfedit and the panel, then the proofs, must-fail edits and stored runs
+# make test        every test: the proofs, must-fail edits and stored runs, the comparison with the Rust original, the runs of emdfcheck, jocverdict, emdfedit and the panel
 # make emdfcheck   proves and builds target/bin/emdfcheck
 # make jocverdict  proves and builds target/bin/jocverdict
 # make emdfedit    proves and builds target/bin/emdfedit
@@ -18,13 +18,8 @@ LIBRARY = target/staticlib/libemdf_host.a
 CFLAGS = -O2
 PREFIX = /usr/local
 
-test: lib emdfcheck jocverdict emdfedit panel
-	@tests/differential/run --short
-	@tests/emdfcheck/run
-	@tests/jocverdict/run
-	@tests/emdfedit/run
-	@tests/panel/run
-	@rt ci
+test:
+	@tests/all
 
 emdfcheck:
 	@rt check emdfcheck
