@@ -2,6 +2,7 @@ pub mod Answers
 pub mod Variable
 pub mod Turns
 pub mod Octets
+pub mod Words
 pub mod Ends
 pub mod Header
 pub mod Walk

@@ -72,23 +72,31 @@ there : (s : List ℕ) (c : BitCursor) (n : ℕ) → n ≤ bitsRemaining s c →
 unfolding valueThere
 there s c n h = simp (le-leb n (bitsRemaining s c) h)
 
-pub high-is : (s : List ℕ) (c : BitCursor) (n : ℕ) → 8 * n ≤ bitsRemaining s c → valueThere s c ((n - 8) * 8) ≡ bytesNumber 0 (take (n - 8) (octetsAt s (c .position) n))
-high-is s c n h =
+high-octets : (s : List ℕ) (p n : ℕ) → bytesNumber 0 (take (n - 8) (octetsAt s p n)) ≡ bitsValue s p (8 * (n - 8))
+high-octets s p n =
     let z : n ≡ n - 8 + (n - (n - 8)) = omega arith in
-    let y : (n - 8) * 8 ≡ 8 * (n - 8) = omega arith in
-    let l : 8 * (n - 8) ≤ bitsRemaining s c = omega arith in
-    let t : take (n - 8) (octetsAt s (c .position) n) ≡ octetsAt s (c .position) (n - 8) = ap (λ (m : ℕ). take (n - 8) (octetsAt s (c .position) m)) z ∙ octets-take s (c .position) (n - 8) (n - (n - 8)) in
-    rw y (there s c (8 * (n - 8)) l ∙ sym (octets-value s (c .position) (n - 8)) ∙ ap (bytesNumber 0) (sym t))
+    ap (λ (m : ℕ). bytesNumber 0 (take (n - 8) (octetsAt s p m))) z ∙ ap (bytesNumber 0) (octets-take s p (n - 8) (n - (n - 8))) ∙ octets-value s p (n - 8)
 
-pub low-is : (s : List ℕ) (c d : BitCursor) (n : ℕ) → d .position ≡ c .position + (n - 8) * 8 → 8 * (n - (n - 8)) ≤ bitsRemaining s d
-    → valueThere s d ((n - (n - 8)) * 8) ≡ bytesNumber 0 (drop (n - 8) (octetsAt s (c .position) n))
-low-is s c d n e l =
+low-octets : (s : List ℕ) (p n : ℕ) → bytesNumber 0 (drop (n - 8) (octetsAt s p n)) ≡ bitsValue s (p + 8 * (n - 8)) (8 * (n - (n - 8)))
+low-octets s p n =
     let z : n ≡ n - 8 + (n - (n - 8)) = omega arith in
-    let y : (n - (n - 8)) * 8 ≡ 8 * (n - (n - 8)) = omega arith in
-    let w : c .position + 8 * (n - 8) ≡ d .position = omega arith in
-    let t : drop (n - 8) (octetsAt s (c .position) n) ≡ octetsAt s (d .position) (n - (n - 8)) =
-    ap (λ (m : ℕ). drop (n - 8) (octetsAt s (c .position) m)) z ∙ octets-drop s (c .position) (n - 8) (n - (n - 8)) ∙ ap (λ (q : ℕ). octetsAt s q (n - (n - 8))) w in
-    rw y (there s d (8 * (n - (n - 8))) l ∙ sym (octets-value s (d .position) (n - (n - 8))) ∙ ap (bytesNumber 0) (sym t))
+    ap (λ (m : ℕ). bytesNumber 0 (drop (n - 8) (octetsAt s p m))) z ∙ ap (bytesNumber 0) (octets-drop s p (n - 8) (n - (n - 8))) ∙ octets-value s (p + 8 * (n - 8)) (n - (n - 8))
+
+protection-is : (s : List ℕ) (p n : ℕ) {high low : ℕ} → high ≡ bitsValue s p (8 * (n - 8)) → low ≡ bitsValue s (p + 8 * (n - 8)) (8 * (n - (n - 8)))
+    → record { length = record { 0 = n }; high = high; low = low } ≡ protectionBytes (octetsAt s p n)
+unfolding protectionBytes
+protection-is s p n h l = rw (length-octets-at, high-octets, low-octets, h, l)
+
+pub long-is : (s : List ℕ) (p n : ℕ) {high low : ℕ} → n ≡ 16 → high ≡ bitsValue s p 64 → low ≡ bitsValue s (p + 64) 64
+    → record { length = record { 0 = n }; high = high; low = low } ≡ protectionBytes (octetsAt s p n)
+long-is s p n e h l = rw e (protection-is s p 16 h l)
+
+pub short-is : (s : List ℕ) (p n : ℕ) {low : ℕ} → n ≤ 8 → low ≡ bitsValue s p (8 * n) → record { length = record { 0 = n }; high = 0; low = low } ≡ protectionBytes (octetsAt s p n)
+short-is s p n k l =
+    let z : n - 8 ≡ 0 = omega arith in
+    let y : p + 8 * 0 ≡ p = omega arith in
+    let x : n - 0 ≡ n = omega arith in
+    protection-is s p n (rw z (sym (value-none s p))) (rw (z, y, x) l)
 
 -- ---- the code's answers
 
@@ -164,10 +172,14 @@ module _ (s : List ℕ) (e p : ℕ) where
   pad-nonzero h k =
       rw (bind-go remaining _ left (ask-go _ _ _ (T-of (le-leb rest 7 h)) (bind-go (bits rest) _ (all-there h) (asked-no (bitsValue s p rest) s e (p + rest) k))))
 
+  pub padding-there : rest ≤ 7 → bitsValue s p rest ≡ 0 → padding s e p ≡ got tt (p + rest)
+  unfolding padding
+  padding-there h k =
+      bind-go remaining _ left (ask-go _ _ _ (T-of (le-leb rest 7 h)) (bind-go (bits rest) _ (all-there h) (ask-fine _ _ s e (T-of (eq-eqb (bitsValue s p rest) 0 k)) refl)))
+
   pub pad-fine : rest ≤ 7 → bitsValue s p rest ≡ 0 → PaddingAnswer.Padded ≡ paddingAnswer (padding s e p)
-  unfolding padding paddingAnswer
-  pad-fine h k =
-      rw (bind-go remaining _ left (ask-go _ _ _ (T-of (le-leb rest 7 h)) (bind-go (bits rest) _ (all-there h) (ask-fine _ _ s e (T-of (eq-eqb (bitsValue s p rest) 0 k)) refl))))
+  unfolding paddingAnswer
+  pad-fine h k = rw (padding-there h k)
 
 pub rest-value : (s : List ℕ) (c : BitCursor) {n : ℕ} → n ≡ bitsRemaining s c → valueThere s c n ≡ bitsValue s (c .position) (bitsRemaining s c)
 rest-value s c {n} h = rw h (there s c (bitsRemaining s c) (le-refl _))
@@ -177,10 +189,14 @@ rest-value s c {n} h = rw h (there s c (bitsRemaining s c) (le-refl _))
 pub bytes-are : (s : List ℕ) (c : BitCursor) (n : ℕ) {past : BitCursor} {more high low : ℕ} → Passed s (c .end) (c .position) n past → more ≡ n - 8
     → high ≡ valueThere s c (more * 8) → low ≡ valueThere s (cursorAt (c .end) (c .position + more * 8)) ((n - more) * 8)
     → BytesAnswer.Bytes (record { length = record { 0 = n }; high = high; low = low }) past ≡ bytesAnswer (c .end) (octets n s (c .end) (c .position))
-unfolding bytesAnswer protectionBytes
+unfolding bytesAnswer
 bytes-are s c n {past} {more} {high} {low} d m h l =
+    let q = c .position + (n - 8) * 8 in
     let r : bitsRemaining s c ≡ bitLimit s (c .end) - c .position = remaining-limit s (c .end) (c .position) in
-    let k : bitsRemaining s (cursorAt (c .end) (c .position + (n - 8) * 8)) ≡ bitLimit s (c .end) - (c .position + (n - 8) * 8) = remaining-limit s (c .end) (c .position + (n - 8) * 8) in
-    let h′ : high ≡ bytesNumber 0 (take (n - 8) (octetsAt s (c .position) n)) = rw m at h ∙ high-is s c n (omega (arith, d .room)) in
-    let l′ : low ≡ bytesNumber 0 (drop (n - 8) (octetsAt s (c .position) n)) = rw m at l ∙ low-is s c (cursorAt (c .end) (c .position + (n - 8) * 8)) n refl (omega (arith, d .room)) in
-    rw (d .is, length-octets-at, h′, l′, ← d .end)
+    let k : bitsRemaining s (cursorAt (c .end) q) ≡ bitLimit s (c .end) - q = remaining-limit s (c .end) q in
+    let i : (n - 8) * 8 ≡ 8 * (n - 8) = omega arith in
+    let j : (n - (n - 8)) * 8 ≡ 8 * (n - (n - 8)) = omega arith in
+    let h′ : high ≡ bitsValue s (c .position) (8 * (n - 8)) = rw (m, i) at h ∙ there s c (8 * (n - 8)) (omega (arith, d .room)) in
+    let l′ : low ≡ bitsValue s (c .position + 8 * (n - 8)) (8 * (n - (n - 8))) =
+    rw (m, j) at l ∙ there s (cursorAt (c .end) q) (8 * (n - (n - 8))) (omega (arith, d .room)) ∙ ap (λ (z : ℕ). bitsValue s (c .position + z) (8 * (n - (n - 8)))) i in
+    rw (d .is, protection-is s (c .position) n h′ l′, ← d .end)

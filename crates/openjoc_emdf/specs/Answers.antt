@@ -1,14 +1,15 @@
 -- The calls' answers, by what the definitions of emdf_format find: e is the end of the cursor that was handed in. Assumes nothing.
 use mathlib.Core.List.{List, [], _∷_}
-use Prim.Native.Nat.{ℕ, _+_, _-_, _*_, _^_}
+use mathlib.Core.Path.{_≡_}
+use Prim.Native.Nat.{ℕ, _+_, _-_, _*_, _^_, _≤_, _<_}
 use lib.ListN.{length, take, drop}
 use lib.Dec.{leb, ltb, eqb}
 use Rattle.openjoc_bitio.specs.Choice.{if_then_else_}
 use Rattle.openjoc_bitio.specs.Bits.{bitsValue}
 use Rattle.openjoc_bitio.specs.Cursor.{bitsRemaining}
 use Rattle.openjoc_bitio.specs.declared.BitCursor.{BitCursor}
-use Rattle.emdf_format.specs.Reader.{Read, got, refused, Reader, _>>=_, give, ask, choose, cursorAt, position, bits, extendedValue}
-use Rattle.emdf_format.specs.Reading.{Found, payloadAfter, Container, Reading, accepted, refusal}
+use Rattle.emdf_format.specs.Reader.{Read, got, refused, Reader, _>>=_, give, ask, choose, cursorAt, position, remaining, bits, extendedValue}
+use Rattle.emdf_format.specs.Reading.{Found, payloadAfter, payloads, Container, containerEnd, Reading, accepted, refusal}
 use Rattle.emdf_format.specs.Calls.{Class, nonEmdf, parsed, trailingData, malformed}
 use Rattle.emdf_format.specs.declared.Optional.{Optional}
 use Rattle.emdf_format.specs.declared.EmdfPayloadConfig.{EmdfPayloadConfig}
@@ -127,12 +128,26 @@ paddingAnswer (refused why q) = PaddingAnswer.Refused why
 
 -- ---- the container
 
+-- protections of these lengths after their codes at position p, and at most 7 zero bits, are all of the bits left
+pub record IsEnd (s : List ℕ) (p left first second : ℕ) : Type 0 where
+  pub some : 0 < first
+  pub room : 4 + (first + second) * 8 ≤ left
+  pub few : left ≤ 4 + (first + second) * 8 + 7
+  pub zeros : bitsValue s (p + (4 + (first + second) * 8)) (left - (4 + (first + second) * 8)) ≡ 0
+
 unfoldable pub containerOf : Container → EmdfContainer
 containerOf c = record {
   «key_id» = c .key-id;
   payloads = length (c .found);
   protection = record { primary = protectionBytes (c .primary); secondary = protectionBytes (c .secondary) };
 }
+
+-- what follows the key id: the end of emdf_format's container
+unfoldable pub containerAfter : ℕ → Reader Container
+containerAfter key = do
+  n ← remaining
+  xs ← payloads n
+  containerEnd key xs
 
 unfoldable pub containerAnswer : ℕ → Read Container → ContainerAnswer
 containerAnswer e (got c q) = ContainerAnswer.Container (containerOf c)

@@ -1,16 +1,18 @@
 // Reading EMDF containers: the port of openjoc-emdf. Each function answers what its definition in emdf_format says.
 ghost use mathlib.Core.Path.{_≡_};
+ghost use mathlib.Core.Bool.{true};
 ghost use Prim.Native.Nat.{_+_, _-_, _*_, _^_, _≤_, _<_};
 ghost use Rattle.emdf_format.specs.Syntax.{escape as ones};
 ghost use Rattle.emdf_format.specs.Contents.{protectionLength};
 ghost use Rattle.emdf_format.specs.Reader.{bits, groupsFrom, variableBits, extendedValue, octets, present, flagged};
 ghost use Rattle.emdf_format.specs.Reading.{sampleOffset, codecData, configControls, payloadConfig, traceOf, Found, payloadAfter, payloads, padding, containerEnd, container, reading};
-ghost use Rattle.emdf_format.specs.Calls.{classify};
+ghost use Rattle.emdf_format.specs.Calls.{classify, octetsAt};
 ghost use mathlib.Core.List.{List};
 ghost use lib.ListN.{length};
+ghost use Rattle.openjoc_bitio.specs.Bits.{bitsValue};
 ghost use Rattle.openjoc_bitio.specs.Cursor.{bitsRemaining};
 ghost use Rattle.openjoc_emdf.specs.Compact.{compactLength, compactStep, recordAt};
-ghost use Rattle.openjoc_emdf.specs.Answers.{fieldAnswer, groupAnswer, startAnswer, refusedGroup, oneGroup, optionalAnswer, configAnswer, cursorAnswer, payloadAnswer, turnAnswer, nextPayload, skipOf, countFrom, bytesAnswer, valueThere, paddingAnswer, containerAnswer, parseAnswer, parsedOf, classAnswer, classifiedOf, reachedBy, firstPayload, openAnswer, parseError, countError, bytesError, paddingError, fieldError, optionalError, configError, cursorError};
+ghost use Rattle.openjoc_emdf.specs.Answers.{fieldAnswer, groupAnswer, startAnswer, refusedGroup, oneGroup, optionalAnswer, configAnswer, cursorAnswer, payloadAnswer, turnAnswer, nextPayload, skipOf, countFrom, protectionBytes, bytesAnswer, valueThere, paddingAnswer, IsEnd, containerAfter, containerAnswer, parseAnswer, parsedOf, classAnswer, classifiedOf, reachedBy, firstPayload, openAnswer, parseError, countError, bytesError, paddingError, fieldError, optionalError, configError, cursorError};
 use emdf_format::EmdfError;
 use emdf_format::EmdfPayloadBitTrace;
 use emdf_format::EmdfPayloadConfig;
@@ -507,7 +509,7 @@ fn payload_after(s: &[u8], c: BitCursor, start: usize, id: u64) -> PayloadStep
 }
 
 // The parts of a payload adjoin: each ends where the next one starts.
-fn bit_trace(id: usize, config: usize, size: usize, body: usize, end: usize) -> EmdfPayloadBitTrace
+pub fn bit_trace(id: usize, config: usize, size: usize, body: usize, end: usize) -> EmdfPayloadBitTrace
     ensures { λ r. ⌜ r ≡ traceOf id config size body end ⌝ }
 {
     EmdfPayloadBitTrace {
@@ -758,8 +760,86 @@ fn padding_error(a: PaddingAnswer) -> EmdfError
     }
 }
 
-// What follows the payloads: protection, and padding to the end.
+// What follows the payloads: protection, and padding to the end. An end that is accepted is read through words.
 fn container_end(s: &[u8], c: BitCursor, key: u64, count: usize) -> ContainerAnswer
+    ensures { λ r. ⌜ ((xs : List Found) → length xs ≡ count → r ≡ containerAnswer (c .end) (containerEnd key xs (now (s .entry)) (c .end) (c .position))) ⌝ }
+{
+    let p = c.position;
+    let end = c.end;
+    let left = BitCursor { position: p, end }.bits_remaining(s);
+    let x = openjoc_bitio::window_at(s, p);
+    let first = protection_length(x >> 62);
+    let second = protection_length((x >> 60) % 4);
+    if !is_end(s, p, left, first, second) {
+        return end_by_fields(s, BitCursor { position: p, end }, key, count);
+    }
+    let primary = protection_at(s, p + 4, first);
+    let secondary = protection_at(s, p + 4 + first * 8, second);
+    let protection = EmdfProtection { primary, secondary };
+    ContainerAnswer::Container(EmdfContainer {
+        key_id: key,
+        payloads: count,
+        protection,
+    })
+}
+
+// Whether two protections of these lengths, and up to 7 zero bits, are all that is left.
+fn is_end(s: &[u8], p: usize, left: usize, first: usize, second: usize) -> bool
+    requires { ⌜ (p + left < 2 ^ 64) × (first ≤ 16) × (second ≤ 16) ⌝ }
+    ensures { λ r. ⌜ (r ≡ true → IsEnd (now (s .entry)) p left first second) ⌝ }
+{
+    if first == 0 {
+        return false;
+    }
+    let n = 4 + (first + second) * 8;
+    if left < n {
+        return false;
+    }
+    if n + 7 < left {
+        return false;
+    }
+    // At most 7 bits, the top ones of a window.
+    (openjoc_bitio::window_at(s, p + n) >> 57) >> (7 - (left - n)) == 0
+}
+
+// The n octets of a protection, from bit p on.
+fn protection_at(s: &[u8], p: usize, n: usize) -> ProtectionBytes
+    requires { ⌜ ((n ≡ 16 → ⊥) → n ≤ 7) × (p + n * 8 < 2 ^ 64) ⌝ }
+    ensures { λ r. ⌜ r ≡ protectionBytes (octetsAt (now (s .entry)) p n) ⌝ }
+{
+    let length = ByteCount(n);
+    if n == 16 {
+        return ProtectionBytes {
+            length,
+            high: word_at(s, p),
+            low: word_at(s, p + 64),
+        };
+    }
+    if n == 0 {
+        return ProtectionBytes {
+            length,
+            high: 0,
+            low: 0,
+        };
+    }
+    ProtectionBytes {
+        length,
+        high: 0,
+        low: (openjoc_bitio::window_at(s, p) >> 8) >> (56 - n * 8),
+    }
+}
+
+// The 64 bits from bit p on.
+fn word_at(s: &[u8], p: usize) -> u64
+    requires { ⌜ p + 32 < 2 ^ 64 ⌝ }
+    ensures { λ r. ⌜ r ≡ bitsValue (now (s .entry)) p 64 ⌝ }
+{
+    (openjoc_bitio::window_at(s, p) >> 32) * 0x1_0000_0000
+        + (openjoc_bitio::window_at(s, p + 32) >> 32)
+}
+
+// The same field by field, which tells why an end is refused.
+fn end_by_fields(s: &[u8], c: BitCursor, key: u64, count: usize) -> ContainerAnswer
     ensures { λ r. ⌜ ((xs : List Found) → length xs ≡ count → r ≡ containerAnswer (c .end) (containerEnd key xs (now (s .entry)) (c .end) (c .position))) ⌝ }
 {
     let a1 = read_bits(s, c, 2);
@@ -797,6 +877,29 @@ fn container_end(s: &[u8], c: BitCursor, key: u64, count: usize) -> ContainerAns
 fn parse_container(s: &[u8], c: BitCursor) -> ContainerAnswer
     ensures { λ r. ⌜ r ≡ containerAnswer (c .end) (container (now (s .entry)) (c .end) (c .position)) ⌝ }
 {
+    let p = c.position;
+    let end = c.end;
+    // Version 0 in 2 bits, and a key id below the escape in 3.
+    let key = openjoc_bitio::window_at(s, p) >> 59;
+    if key < 7 {
+        if 5 <= (BitCursor { position: p, end }.bits_remaining(s)) {
+            return parse_payloads(
+                s,
+                BitCursor {
+                    position: p + 5,
+                    end,
+                },
+                key,
+            );
+        }
+    }
+    container_by_fields(s, BitCursor { position: p, end })
+}
+
+// The same field by field: another version, a key id with the escape, or missing bits.
+fn container_by_fields(s: &[u8], c: BitCursor) -> ContainerAnswer
+    ensures { λ r. ⌜ r ≡ containerAnswer (c .end) (container (now (s .entry)) (c .end) (c .position)) ⌝ }
+{
     let a1 = extended_value(s, c, 3, 2);
     let FieldAnswer::Value(version, c1) = a1 else {
         return ContainerAnswer::Refused(field_error(a1));
@@ -808,11 +911,18 @@ fn parse_container(s: &[u8], c: BitCursor) -> ContainerAnswer
     let FieldAnswer::Value(key, c2) = a2 else {
         return ContainerAnswer::Refused(field_error(a2));
     };
-    let a3 = count_payloads(s, c2);
-    let CountAnswer::Counted(count, c3) = a3 else {
-        return ContainerAnswer::Refused(count_error(a3));
+    parse_payloads(s, c2, key)
+}
+
+// A container after its key id: its payloads, and what follows them.
+fn parse_payloads(s: &[u8], c: BitCursor, key: u64) -> ContainerAnswer
+    ensures { λ r. ⌜ r ≡ containerAnswer (c .end) (containerAfter key (now (s .entry)) (c .end) (c .position)) ⌝ }
+{
+    let a = count_payloads(s, c);
+    let CountAnswer::Counted(count, c1) = a else {
+        return ContainerAnswer::Refused(count_error(a));
     };
-    container_end(s, c3, key, count)
+    container_end(s, c1, key, count)
 }
 
 // Reads the carrier at the start of bytes; what follows it is not looked at.
@@ -874,6 +984,15 @@ fn first_payload(bytes: &[u8], n: usize) -> BitCursor
     requires { ⌜ (n ≤ length (now bytes)) × (n * 8 < 2 ^ 64) ⌝ }
     ensures { λ r. ⌜ r ≡ firstPayload n (now (bytes .entry)) ⌝ }
 {
+    // A key id below the escape takes 3 bits.
+    if 5 <= n {
+        if openjoc_bitio::window_at(&bytes[..n], 32) >> 59 < 7 {
+            return BitCursor {
+                position: 37,
+                end: n * 8,
+            };
+        }
+    }
     let key = BitCursor {
         position: 34,
         end: n * 8,

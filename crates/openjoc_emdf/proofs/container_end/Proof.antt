@@ -1,144 +1,80 @@
 use borrow.Author.Needs.{needs}
-use mathlib.Core.Bool.{Bool, not}
-use mathlib.Core.Path.{refl, sym, ap, _∙_}
-use borrow.Author.Tests.{eq-eqb, ne-eqb}
-use Rattle.emdf_format.proofs.Standing.{T-of, T-not-of}
-use Rattle.emdf_format.specs.Reader.{give}
-use Rattle.emdf_format.specs.Reading.{containerEnd}
+use Prim.Native.Nat.{_+_, _^_, _<_}
+use mathlib.Core.Path.{refl}
+use native.Mathlib.Omega.{arith}
+use denote.Ref.{now}
+use Rattle.openjoc_bitio.proofs.Cursor.{remaining-end}
+use Rattle.emdf_format.proofs.Standing.{holds}
 use Rattle.openjoc_emdf.specs.Answers.{containerOf, containerAnswer}
-use Rattle.openjoc_emdf.specs.declared.ContainerAnswer.the-variants.{Refused}
-use Rattle.openjoc_emdf.proofs.Answers.{field-found, via, yes, no-more, by-field}
-use Rattle.openjoc_emdf.proofs.Ends.{bytes-found, bytes-as, padded, by-bytes, by-padding, container-refuses, short-protection}
+use Rattle.openjoc_emdf.proofs.Ends.{short-protection}
+use Rattle.openjoc_emdf.proofs.Words.{end-fits, fits-word, end-found}
 use Rattle.openjoc_emdf.proofs.container_end.Statement.{statement}
 use Rattle.openjoc_emdf.proofs.container_end.Tie as tie
 
-read-bits-requires : tie.Need-read-bits-requires
-read-bits-requires c κs = search needs
+bits-remaining-requires : tie.Need-bits-remaining-requires
+bits-remaining-requires c κs = search needs
 
-enum-known-a1 : tie.Need-enum-known-a1
-enum-known-a1 c = search needs
-
-enum-told : tie.Need-enum-told
-enum-told c = search needs
-
-field-error-requires : tie.Need-field-error-requires
-field-error-requires c κs = search needs
-
-returns : tie.Need-returns
-unfolding containerEnd containerAnswer containerOf give
-returns c = λ xs len. by-field containerAnswer Refused container-refuses _ _ _ _ _ (c .before .before .before .read-bits .ensures) (c .before .enum-told .given .1) (c .field-error .ensures)
-
-read-bits-requires-2 : tie.Need-read-bits-requires-2
-read-bits-requires-2 c κs = search needs
-
-enum-known-a2 : tie.Need-enum-known-a2
-enum-known-a2 c = search needs
-
-enum-told-2 : tie.Need-enum-told-2
-enum-told-2 c = search needs
-
-field-error-requires-2 : tie.Need-field-error-requires-2
-field-error-requires-2 c κs = search needs
-
-returns-2 : tie.Need-returns-2
-unfolding containerEnd containerAnswer containerOf give
-returns-2 c = λ xs len. via containerAnswer _ _ _ _ _ (field-found _ (sym (c .before .before .before .before .before .before .before .read-bits .ensures) ∙ c .before .before .before .before .before .a1 .given .1)) (by-field containerAnswer Refused container-refuses _ _ _ _ _ (c .before .before .before .read-bits2 .ensures) (c .before .enum-told2 .given .1) (c .field-error2 .ensures))
-
-returns-3 : tie.Need-returns-3
-unfolding containerEnd containerAnswer containerOf give
-returns-3 c = λ xs len. via containerAnswer _ _ _ _ _ (field-found _ (sym (c .before .before .before .before .before .before .before .before .read-bits .ensures) ∙ c .before .before .before .before .before .before .a1 .given .1)) (via containerAnswer _ _ _ _ _ (field-found _ (sym (c .before .before .before .before .read-bits2 .ensures) ∙ c .before .before .a2 .given .1)) (no-more containerAnswer _ _ _ _ _ _ (T-of (ap (λ (t : Bool). not (not t)) (eq-eqb _ _ (c .if1 .taken)))) refl))
+window-at-requires : tie.Need-window-at-requires
+window-at-requires c κs = search needs
 
 protection-length-requires : tie.Need-protection-length-requires
 protection-length-requires c κs = search needs
 
-protection-bytes-requires : tie.Need-protection-bytes-requires
-protection-bytes-requires c κs = short-protection _ (c .protection-length .ensures)
-
-enum-known-a3 : tie.Need-enum-known-a3
-enum-known-a3 c = search needs
-
-enum-told-3 : tie.Need-enum-told-3
-enum-told-3 c = search needs
-
-bytes-error-requires : tie.Need-bytes-error-requires
-bytes-error-requires c κs = search needs
-
-returns-4 : tie.Need-returns-4
-unfolding containerEnd containerAnswer containerOf give
-returns-4 c = λ xs len. via containerAnswer _ _ _ _ _ (field-found _ (sym (c .before .before .before .before .before .before .before .before .before .before .before .before .before .read-bits .ensures) ∙ c .before .before .before .before .before .before .before .before .before .before .before .a1 .given .1)) (via containerAnswer _ _ _ _ _ (field-found _ (sym (c .before .before .before .before .before .before .before .before .before .read-bits2 .ensures) ∙ c .before .before .before .before .before .before .before .a2 .given .1)) (yes containerAnswer _ _ _ _ _ _ (T-not-of (ne-eqb _ _ (c .before .before .before .before .before .if1 .left))) (by-bytes containerAnswer Refused container-refuses _ _ _ _ _ (bytes-as _ _ _ _ _ (c .before .before .before .protection-bytes .ensures) (c .before .before .before .before .protection-length .ensures)) (c .before .enum-told3 .given .1) (c .bytes-error .ensures))))
-
 protection-length-requires-2 : tie.Need-protection-length-requires-2
 protection-length-requires-2 c κs = search needs
 
-protection-bytes-requires-2 : tie.Need-protection-bytes-requires-2
-protection-bytes-requires-2 c κs = short-protection _ (c .protection-length2 .ensures)
+is-end-requires : tie.Need-is-end-requires
+is-end-requires c κs =
+    let a = c .before .before .before .before .before .args in
+    let h : a .c .position + c .before .before .before .bits-remaining .result < 2 ^ 64 = omega (arith, c .before .before .before .bits-remaining .ensures, remaining-end (now (a .s)) (a .c)) in
+    (h, short-protection _ (c .before .protection-length .ensures), short-protection _ (c .protection-length2 .ensures))
 
-enum-known-a4 : tie.Need-enum-known-a4
-enum-known-a4 c = search needs
+end-by-fields-requires : tie.Need-end-by-fields-requires
+end-by-fields-requires c κs = search needs
 
-enum-told-4 : tie.Need-enum-told-4
-enum-told-4 c = search needs
+returns : tie.Need-returns
+returns c = search needs
 
-bytes-error-requires-2 : tie.Need-bytes-error-requires-2
-bytes-error-requires-2 c κs = search needs
+add-protection-at : tie.Need-add-protection-at
+add-protection-at c = omega (arith, end-fits _ (c .before .before .before .before .before .before .before .args .c) (c .before .before .before .before .before .bits-remaining .ensures) (c .before .is-end .ensures (holds (c .if1 .left) refl)))
 
-returns-5 : tie.Need-returns-5
-unfolding containerEnd containerAnswer containerOf give
-returns-5 c = λ xs len. via containerAnswer _ _ _ _ _ (field-found _ (sym (c .before .before .before .before .before .before .before .before .before .before .before .before .before .before .before .before .before .before .read-bits .ensures) ∙ c .before .before .before .before .before .before .before .before .before .before .before .before .before .before .before .before .a1 .given .1)) (via containerAnswer _ _ _ _ _ (field-found _ (sym (c .before .before .before .before .before .before .before .before .before .before .before .before .before .before .read-bits2 .ensures) ∙ c .before .before .before .before .before .before .before .before .before .before .before .before .a2 .given .1)) (yes containerAnswer _ _ _ _ _ _ (T-not-of (ne-eqb _ _ (c .before .before .before .before .before .before .before .before .before .before .if1 .left))) (via containerAnswer _ _ _ _ _ (bytes-found _ _ (sym (bytes-as _ _ _ _ _ (c .before .before .before .before .before .before .before .before .protection-bytes .ensures) (c .before .before .before .before .before .before .before .before .before .protection-length .ensures)) ∙ c .before .before .before .before .before .before .a3 .given .1) .2) (by-bytes containerAnswer Refused container-refuses _ _ _ _ _ (bytes-as _ _ _ _ _ (c .before .before .before .protection-bytes2 .ensures) (c .before .before .before .before .protection-length2 .ensures)) (c .before .enum-told4 .given .1) (c .bytes-error2 .ensures)))))
+protection-at-requires : tie.Need-protection-at-requires
+protection-at-requires c κs = (fits-word _ (c .before .before .before .protection-length .ensures), omega (arith, end-fits _ (c .before .before .before .before .before .before .before .args .c) (c .before .before .before .before .before .bits-remaining .ensures) (c .before .is-end .ensures (holds (c .if1 .left) refl))))
 
-check-padding-requires : tie.Need-check-padding-requires
-check-padding-requires c κs = search needs
+add-protection-at-2 : tie.Need-add-protection-at-2
+add-protection-at-2 c = omega (arith, end-fits _ (c .before .before .before .before .before .before .before .before .args .c) (c .before .before .before .before .before .before .bits-remaining .ensures) (c .before .before .is-end .ensures (holds (c .before .if1 .left) refl)))
 
-enum-told-5 : tie.Need-enum-told-5
-enum-told-5 c = search needs
+mul-protection-at : tie.Need-mul-protection-at
+mul-protection-at c = omega (arith, end-fits _ (c .before .before .before .before .before .before .before .before .args .c) (c .before .before .before .before .before .before .bits-remaining .ensures) (c .before .before .is-end .ensures (holds (c .before .if1 .left) refl)))
 
-enum-told-6 : tie.Need-enum-told-6
-enum-told-6 c = search needs
+add-protection-at-3 : tie.Need-add-protection-at-3
+add-protection-at-3 c = omega (arith, end-fits _ (c .before .before .before .before .before .before .before .before .args .c) (c .before .before .before .before .before .before .bits-remaining .ensures) (c .before .before .is-end .ensures (holds (c .before .if1 .left) refl)))
 
-padding-error-requires : tie.Need-padding-error-requires
-padding-error-requires c κs = search needs
+protection-at-requires-2 : tie.Need-protection-at-requires-2
+protection-at-requires-2 c κs = (fits-word _ (c .before .before .before .protection-length2 .ensures), omega (arith, end-fits _ (c .before .before .before .before .before .before .before .before .args .c) (c .before .before .before .before .before .before .bits-remaining .ensures) (c .before .before .is-end .ensures (holds (c .before .if1 .left) refl))))
 
-returns-6 : tie.Need-returns-6
-unfolding containerEnd containerAnswer containerOf give
-returns-6 c = λ xs len. via containerAnswer _ _ _ _ _ (field-found _ (sym (c .before .before .before .before .before .before .before .before .before .before .before .before .before .before .before .before .before .before .before .before .before .before .read-bits .ensures) ∙ c .before .before .before .before .before .before .before .before .before .before .before .before .before .before .before .before .before .before .before .before .a1 .given .1)) (via containerAnswer _ _ _ _ _ (field-found _ (sym (c .before .before .before .before .before .before .before .before .before .before .before .before .before .before .before .before .before .before .read-bits2 .ensures) ∙ c .before .before .before .before .before .before .before .before .before .before .before .before .before .before .before .before .a2 .given .1)) (yes containerAnswer _ _ _ _ _ _ (T-not-of (ne-eqb _ _ (c .before .before .before .before .before .before .before .before .before .before .before .before .before .before .if1 .left))) (via containerAnswer _ _ _ _ _ (bytes-found _ _ (sym (bytes-as _ _ _ _ _ (c .before .before .before .before .before .before .before .before .before .before .before .before .protection-bytes .ensures) (c .before .before .before .before .before .before .before .before .before .before .before .before .before .protection-length .ensures)) ∙ c .before .before .before .before .before .before .before .before .before .before .a3 .given .1) .2) (via containerAnswer _ _ _ _ _ (bytes-found _ _ (sym (bytes-as _ _ _ _ _ (c .before .before .before .before .before .before .before .protection-bytes2 .ensures) (c .before .before .before .before .before .before .before .before .protection-length2 .ensures)) ∙ c .before .before .before .before .before .a4 .given .1) .2) (by-padding containerAnswer Refused container-refuses _ _ _ _ _ (c .before .before .before .check-padding .ensures) (c .before .enum-told6 .given .1) (c .padding-error .ensures))))))
-
-returns-7 : tie.Need-returns-7
-unfolding containerEnd containerAnswer containerOf give
-returns-7 c =
-    let b = bytes-found _ _ (sym (bytes-as _ _ _ _ _ (c .before .before .before .before .before .before .before .before .before .before .before .protection-bytes .ensures) (c .before .before .before .before .before .before .before .before .before .before .before .before .protection-length .ensures)) ∙ c .before .before .before .before .before .before .before .before .before .a3 .given .1) in
-    let d = bytes-found _ _ (sym (bytes-as _ _ _ _ _ (c .before .before .before .before .before .before .protection-bytes2 .ensures) (c .before .before .before .before .before .before .before .protection-length2 .ensures)) ∙ c .before .before .before .before .a4 .given .1) in
-    λ xs len. via containerAnswer _ _ _ _ _ (field-found _ (sym (c .before .before .before .before .before .before .before .before .before .before .before .before .before .before .before .before .before .before .before .before .before .read-bits .ensures) ∙ c .before .before .before .before .before .before .before .before .before .before .before .before .before .before .before .before .before .before .before .a1 .given .1)) (via containerAnswer _ _ _ _ _ (field-found _ (sym (c .before .before .before .before .before .before .before .before .before .before .before .before .before .before .before .before .before .read-bits2 .ensures) ∙ c .before .before .before .before .before .before .before .before .before .before .before .before .before .before .before .a2 .given .1)) (yes containerAnswer _ _ _ _ _ _ (T-not-of (ne-eqb _ _ (c .before .before .before .before .before .before .before .before .before .before .before .before .before .if1 .left))) (via containerAnswer _ _ _ _ _ (b .2) (via containerAnswer _ _ _ _ _ (d .2) (padded containerAnswer _ _ _ _ _ (c .before .before .check-padding .ensures) (c .enum-told5 .given .1) (λ q. rw (len, b .1, d .1)))))))
+returns-2 : tie.Need-returns-2
+unfolding containerAnswer containerOf
+returns-2 c =
+    let a = c .before .before .before .before .before .before .before .before .before .args in
+    let d = c .before .before .before .is-end .ensures (holds (c .before .before .if1 .left) refl) in
+    λ xs len. rw (end-found (now (a .s)) (a .c .end) (a .c .position) (a .key) xs (c .before .before .before .before .before .before .window-at .ensures) (c .before .before .before .before .before .protection-length .ensures) (c .before .before .before .before .protection-length2 .ensures) (c .before .before .before .before .before .before .before .bits-remaining .ensures) d, len, c .before .protection-at .ensures, c .protection-at2 .ensures)
 
 pub container-end-spec : {M : Type 1} → statement M
 container-end-spec =
     tie.close
     (tie.spec
-    read-bits-requires
-    enum-known-a1
-    enum-told
-    field-error-requires
-    returns
-    read-bits-requires-2
-    enum-known-a2
-    enum-told-2
-    field-error-requires-2
-    returns-2
-    returns-3
+    bits-remaining-requires
+    window-at-requires
     protection-length-requires
-    protection-bytes-requires
-    enum-known-a3
-    enum-told-3
-    bytes-error-requires
-    returns-4
     protection-length-requires-2
-    protection-bytes-requires-2
-    enum-known-a4
-    enum-told-4
-    bytes-error-requires-2
-    returns-5
-    check-padding-requires
-    enum-told-5
-    enum-told-6
-    padding-error-requires
-    returns-6
-    returns-7)
+    is-end-requires
+    end-by-fields-requires
+    returns
+    add-protection-at
+    protection-at-requires
+    add-protection-at-2
+    mul-protection-at
+    add-protection-at-3
+    protection-at-requires-2
+    returns-2)
