@@ -7,10 +7,11 @@
 # make panel       builds target/bin/panel, an example of a host in C, on the proved library
 # make install     puts header, library, emdf.pc and NOTICE under PREFIX
 # make long        the comparison with the Rust original at its long length
+# make bench       what the library's calls cost, beside the Rust original, and the aims reached
 # make fuzz        the library's calls fuzzed for a minute, after the fuzzer's self-check
 # make threads     the library's calls from eight threads
 # make stack       the stack that each call takes
-.PHONY: test emdfcheck jocverdict emdfedit bitfields lib panel install long fuzz threads stack
+.PHONY: test emdfcheck jocverdict emdfedit bitfields lib panel install long bench fuzz threads stack
 # Two runs of rt would write the same target/.
 .NOTPARALLEL:
 
@@ -54,6 +55,9 @@ $(LIBRARY):
 
 long: lib
 	@tests/differential/run --long
+
+bench: lib
+	@tests/differential/run --bench
 
 fuzz: lib
 	@tests/fuzz/run --self-check
