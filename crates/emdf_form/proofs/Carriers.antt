@@ -4,7 +4,6 @@ use mathlib.Core.List.{List, [], _∷_, _++_, append-nil, append-assoc}
 use Prim.Native.Nat.{ℕ, suc, _≤_}
 use native.Mathlib.Omega.{arith}
 use lib.ListN.{length, getD}
-use Rattle.openjoc_bitio.specs.declared.ByteCount.{ByteCount}
 use Rattle.openjoc_bitio.specs.declared.BitError.{BitError}
 use Rattle.openjoc_bitio.specs.declared.BitError.the-variants as BitError
 use Rattle.openjoc_bitio.specs.Cursor as bit
@@ -15,12 +14,9 @@ use Rattle.emdf_format.specs.declared.EmdfError.the-variants.{TruncatedContaine
 use Rattle.emdf_format.specs.declared.Optional.{Optional}
 use Rattle.emdf_format.specs.declared.Optional.the-variants.{Absent, Present}
 use Rattle.emdf_format.specs.declared.EmdfPayloadConfig.{EmdfPayloadConfig}
-use Rattle.openjoc_emdf.specs.Answers.{parsedEmdf, classAnswer}
-use Rattle.openjoc_emdf.specs.declared.ParsedEmdf.{ParsedEmdf}
-use Rattle.openjoc_emdf.specs.declared.CarrierClassification.{CarrierClassification}
-use Rattle.openjoc_emdf.specs.declared.CarrierClassification.the-variants as CarrierClassification
+use Rattle.openjoc_emdf.specs.Answers.{containerOf, parsedEmdf, classAnswer}
 use Rattle.emdf_form.specs.Bits.{figured}
-use Rattle.emdf_form.specs.Carriers.{padded, parsedWords, optionalWords, configWords, classNumber, classWords}
+use Rattle.emdf_form.specs.Carriers.{padded, parsedWords, parsedListed, optionalWords, configWords, classNumber, classWords, classReturned, classListed}
 use Rattle.emdf_form.specs.declared.Figures.{Figures}
 
 -- ---- a row
@@ -113,46 +109,22 @@ figured-padded n [] = refl
 figured-padded n (a ∷ []) = refl
 figured-padded n (a ∷ b ∷ fs) = refl
 
--- ---- class
+-- ---- the answers of a reading and of a classification are written as what they are answers of
 
-module _ {x : CarrierClassification} where
-  pub none-words : x ≡ CarrierClassification.NonEmdf → (k : Class) → x ≡ classAnswer k → padded 10 [] ≡ classWords k
-  unfolding classAnswer classWords
-  none-words e nonEmdf h = refl
-  none-words e (parsed n c) h = absurd (let w : _≡_ {A = ℕ} 0 1 = cc in omega arith)
-  none-words e (trailingData n len) h = absurd (let w : _≡_ {A = ℕ} 0 1 = cc in omega arith)
-  none-words e (malformed why) h = absurd (let w : _≡_ {A = ℕ} 0 1 = cc in omega arith)
+pub parsed-listed : (n : ℕ) (c : Container) → parsedListed (parsedEmdf n c) ≡ parsedWords n c
+unfolding parsedListed parsedWords containerOf
+parsed-listed n c = refl
 
-  pub parsed-class : {p : ParsedEmdf} {w : List ℕ} → x ≡ CarrierClassification.Parsed p → ((n : ℕ) (c : Container) → p ≡ parsedEmdf n c → w ≡ parsedWords n c)
-      → (k : Class) → x ≡ classAnswer k → 1 ∷ w ≡ classWords k
-  unfolding classAnswer classWords
-  parsed-class e f nonEmdf h = absurd (let w : _≡_ {A = ℕ} 0 1 = cc in omega arith)
-  parsed-class {p} e f (parsed n c) h = let a : p ≡ parsedEmdf n c = cc in rw (f n c a)
-  parsed-class e f (trailingData n len) h = absurd (let w : _≡_ {A = ℕ} 0 1 = cc in omega arith)
-  parsed-class e f (malformed why) h = absurd (let w : _≡_ {A = ℕ} 0 1 = cc in omega arith)
+pub class-returned : (k : Class) → classReturned (classAnswer k) ≡ classNumber k
+unfolding classReturned classAnswer classNumber
+class-returned nonEmdf = refl
+class-returned (parsed n c) = refl
+class-returned (trailingData n len) = refl
+class-returned (malformed why) = refl
 
-  pub trailing-words : {n len : ByteCount} → x ≡ CarrierClassification.TrailingData n len → (k : Class) → x ≡ classAnswer k → 2 ∷ padded 9 (n .0 ∷ len .0 ∷ []) ≡ classWords k
-  unfolding classAnswer classWords padded
-  trailing-words e nonEmdf h = absurd (let w : _≡_ {A = ℕ} 0 1 = cc in omega arith)
-  trailing-words e (parsed n c) h = absurd (let w : _≡_ {A = ℕ} 0 1 = cc in omega arith)
-  trailing-words {n} {len} e (trailingData m k) h =
-      let a : n .0 ≡ m = cc in
-      let b : len .0 ≡ k = cc in
-      rw (a, b)
-  trailing-words e (malformed why) h = absurd (let w : _≡_ {A = ℕ} 0 1 = cc in omega arith)
-
-  malformed-is : {why : EmdfError} → x ≡ CarrierClassification.Malformed why → (k : Class) → x ≡ classAnswer k → k ≡ malformed why
-  unfolding classAnswer
-  malformed-is e nonEmdf h = absurd (let w : _≡_ {A = ℕ} 0 1 = cc in omega arith)
-  malformed-is e (parsed n c) h = absurd (let w : _≡_ {A = ℕ} 0 1 = cc in omega arith)
-  malformed-is e (trailingData n len) h = absurd (let w : _≡_ {A = ℕ} 0 1 = cc in omega arith)
-  malformed-is e (malformed why) h = cc
-
-  pub malformed-words : {why : EmdfError} {f : Figures} → x ≡ CarrierClassification.Malformed why → f ≡ figured (number why) (figures why)
-      → (k : Class) → x ≡ classAnswer k → 3 ∷ padded 9 (f .first ∷ f .second ∷ []) ≡ classWords k
-  unfolding classWords padded
-  malformed-words {why} e d k h = rw (malformed-is e k h) (ap (λ (l : List ℕ). 3 ∷ l) (figured-words (number why) (figures why) (two-figures why) d))
-
-  pub malformed-number : {why : EmdfError} {f : Figures} → x ≡ CarrierClassification.Malformed why → f ≡ figured (number why) (figures why) → (k : Class) → x ≡ classAnswer k → f .number ≡ classNumber k
-  unfolding classNumber
-  malformed-number e d k h = rw (malformed-is e k h, d)
+pub class-listed : (k : Class) → classListed (classAnswer k) ≡ classWords k
+unfolding classListed classAnswer classWords
+class-listed nonEmdf = refl
+class-listed (parsed n c) = ap (λ (l : List ℕ). 1 ∷ l) (parsed-listed n c)
+class-listed (trailingData n len) = refl
+class-listed (malformed why) = refl

@@ -13,6 +13,9 @@ use Rattle.emdf_format.specs.declared.BodyAnswer.{BodyAnswer}
 use Rattle.emdf_format.specs.declared.BodyAnswer.the-variants as BodyAnswer
 use Rattle.openjoc_emdf.specs.Answers.{protectionBytes}
 use Rattle.openjoc_emdf.specs.declared.ProtectionBytes.{ProtectionBytes}
+use Rattle.openjoc_emdf.specs.declared.ParsedEmdf.{ParsedEmdf}
+use Rattle.openjoc_emdf.specs.declared.CarrierClassification.{CarrierClassification}
+use Rattle.openjoc_emdf.specs.declared.CarrierClassification.the-variants as CarrierClassification
 use Rattle.emdf_form.specs.Form.{words}
 
 -- n numbers: those given, and zeros after them
@@ -29,6 +32,11 @@ protectionWords b = b .length .0 ∷ b .high ∷ b .low ∷ []
 
 unfoldable pub parsedWords : ℕ → Container → List ℕ
 parsedWords n c = n ∷ c .key-id ∷ length (c .found) ∷ protectionWords (protectionBytes (c .primary)) ++ protectionWords (protectionBytes (c .secondary))
+
+-- the same, of the answer of a reading
+unfoldable pub parsedListed : ParsedEmdf → List ℕ
+parsedListed p =
+    p .«bytes_consumed» .0 ∷ p .container .«key_id» ∷ p .container .payloads ∷ protectionWords (p .container .protection .primary) ++ protectionWords (p .container .protection .secondary)
 
 -- the carrier s read into a table of so many bytes, 216 a row
 unfoldable pub readInto : List ℕ → List ℕ → Records
@@ -98,6 +106,19 @@ classWords nonEmdf = padded 10 []
 classWords (parsed n c) = 1 ∷ parsedWords n c
 classWords (trailingData n len) = padded 10 (2 ∷ n ∷ len ∷ [])
 classWords (malformed why) = padded 10 (3 ∷ figures why)
+
+-- the same, of the answer of a classification
+unfoldable pub classReturned : CarrierClassification → ℕ
+classReturned CarrierClassification.NonEmdf = 0
+classReturned (CarrierClassification.Parsed p) = 0
+classReturned (CarrierClassification.TrailingData n len) = 0
+classReturned (CarrierClassification.Malformed why) = number why
+
+unfoldable pub classListed : CarrierClassification → List ℕ
+classListed CarrierClassification.NonEmdf = padded 10 []
+classListed (CarrierClassification.Parsed p) = 1 ∷ parsedListed p
+classListed (CarrierClassification.TrailingData n len) = padded 10 (2 ∷ n .0 ∷ len .0 ∷ [])
+classListed (CarrierClassification.Malformed why) = padded 10 (3 ∷ figures why)
 
 -- ---- a body's move: 2 numbers
 

@@ -1,7 +1,10 @@
 use borrow.Author.Needs.{needs}
-use mathlib.Core.Path.{_∙_}
-use Rattle.emdf_form.specs.Carriers.{padded}
-use Rattle.emdf_form.proofs.Carriers.{none-words, parsed-class, trailing-words, malformed-words}
+use mathlib.Core.Path.{ap, _∙_}
+use mathlib.Core.List.{List, _∷_}
+use Prim.Native.Nat.{ℕ}
+use Rattle.emdf_format.specs.Calls.{number, figures}
+use Rattle.emdf_form.specs.Carriers.{padded, classListed}
+use Rattle.emdf_form.proofs.Carriers.{two-figures, figured-words}
 use Rattle.emdf_form.proofs.class_words.Statement.{statement}
 use Rattle.emdf_form.proofs.class_words.Tie as tie
 
@@ -42,17 +45,22 @@ with-class-requires-3 : tie.Need-with-class-requires-3
 with-class-requires-3 c κs = search needs
 
 returns : tie.Need-returns
-unfolding padded
-returns c = none-words (c .enum-told .given .1)
+unfolding classListed padded
+returns c = rw (c .enum-told .given .1)
 
 returns-2 : tie.Need-returns-2
-returns-2 c k h = c .with-class .ensures ∙ parsed-class (c .before .before .before .class .given .1) (c .before .parsed-words .ensures) k h
+unfolding classListed
+returns-2 c = c .with-class .ensures ∙ rw (c .before .before .before .class .given .1, c .before .parsed-words .ensures)
 
 returns-3 : tie.Need-returns-3
-returns-3 c k h = c .with-class2 .ensures ∙ rw (c .before .figure-words .ensures, c .before .before .with-figures .ensures) (trailing-words (c .before .before .before .before .class2 .given .1) k h)
+unfolding classListed padded
+returns-3 c = c .with-class2 .ensures ∙ rw (c .before .before .before .before .class2 .given .1, c .before .figure-words .ensures, c .before .before .with-figures .ensures)
 
 returns-4 : tie.Need-returns-4
-returns-4 c k h = c .with-class3 .ensures ∙ rw (c .before .figure-words2 .ensures) (malformed-words (c .before .before .before .before .class3 .given .1) (c .before .before .emdf-figures .ensures) k h)
+unfolding classListed padded
+returns-4 c =
+    let k = c .before .before .before .before .class3 .given in
+    c .with-class3 .ensures ∙ rw (k .1, c .before .figure-words2 .ensures) (ap (λ (l : List ℕ). 3 ∷ l) (figured-words (number (k .0 .0)) (figures (k .0 .0)) (two-figures (k .0 .0)) (c .before .before .emdf-figures .ensures)))
 
 pub class-words-spec : {M : Type 1} → statement M
 class-words-spec =

@@ -1,11 +1,11 @@
-use Rattle.openjoc_emdf.specs.Answers.{containerOf}
-use Rattle.emdf_form.specs.Carriers.{protectionWords, parsedWords}
+use mathlib.Core.Path.{refl}
+use Rattle.emdf_form.specs.Carriers.{protectionWords, parsedListed}
 use Rattle.emdf_form.proofs.parsed_words.Statement.{statement}
 use Rattle.emdf_form.proofs.parsed_words.Tie as tie
 
 returns : tie.Need-returns
-unfolding parsedWords protectionWords containerOf
-returns c n k e = rw e
+unfolding parsedListed protectionWords
+returns c = refl
 
 pub parsed-words-spec : {M : Type 1} → statement M
 parsed-words-spec = tie.close (tie.spec returns)
