@@ -7,7 +7,10 @@ use native.Mathlib.Omega.{arith}
 use borrow.Author.Tests.{le-leb, lt-leb}
 use lib.ListN.{length, take, drop, length-append}
 use lib.Seq.{sets, sets-eq}
+use Rattle.openjoc_bitio.specs.Bits.{windowAt}
+use Rattle.openjoc_bitio.specs.Cursor.{bitsRemaining}
 use Rattle.openjoc_bitio.specs.declared.BitCursor.{BitCursor}
+use Rattle.emdf_format.specs.Reader.{cursorAt}
 use Rattle.emdf_format.specs.Reading.{Found, Container, reading}
 use Rattle.emdf_format.specs.Calls.{number, figures, recordsNumber, recordsFigures, bodyFigures, recordsOf, inTable, Records, unrecorded}
 use Rattle.emdf_format.specs.declared.EmdfError.{EmdfError}
@@ -19,12 +22,14 @@ use Rattle.emdf_format.specs.declared.Optional.{Optional}
 use Rattle.emdf_format.specs.declared.Optional.the-variants.{Absent, Present}
 use Rattle.emdf_format.specs.declared.EmdfPayloadConfig.{EmdfPayloadConfig}
 use Rattle.emdf_format.specs.declared.PayloadRecord.{PayloadRecord}
-use Rattle.openjoc_emdf.specs.Answers.{nextPayload, turnAnswer, parsedEmdf, containerOf, openAnswer}
+use Rattle.emdf_settings.specs.Words.{headLength, sizeLength, sizeValue}
+use Rattle.openjoc_emdf.specs.Answers.{parsedEmdf, containerOf, openAnswer}
 use Rattle.openjoc_emdf.specs.declared.ParsedEmdf.{ParsedEmdf}
 use Rattle.openjoc_emdf.specs.declared.OpenAnswer.the-variants as OpenAnswer
 use Rattle.openjoc_emdf.specs.declared.PayloadStep.{PayloadStep}
 use Rattle.openjoc_emdf.specs.declared.PayloadStep.the-variants as PayloadStep
-use Rattle.openjoc_emdf.proofs.Walk.{Listed, listed-step, Opened, opened, unopened}
+use Rattle.openjoc_emdf.proofs.Walk.{Listed, listed-step, stepAt, Opened, opened, unopened}
+use Rattle.openjoc_emdf.proofs.Compact.{compactRecord, compact-step}
 use Rattle.emdf_form.specs.Form.{bigEndian, words}
 use Rattle.emdf_form.specs.Bits.{figured}
 use Rattle.emdf_form.specs.Carriers.{padded, parsedWords, readInto, readNumber, readWords, optionalWords, configWords, traceWords, recordWords, rowsBytes, rowsAfter, moveNumber, moveWords}
@@ -82,9 +87,6 @@ pub record Left (s : List ℕ) (at : BitCursor) (i count : ℕ) (table complete 
 pub left-all : {s table : List ℕ} {c : BitCursor} {count : ℕ} (xs : List Found) → Listed s c xs → length xs ≡ count → Left s c 0 count table (sets table 0 (rowsBytes (recordsOf xs)))
 left-all xs l e = record { found = xs; listed = l; counted = omega arith; rows = refl }
 
-abbrev stepAt : List ℕ → BitCursor → PayloadStep
-stepAt s c = turnAnswer (c .end) (nextPayload s (c .end) (c .position))
-
 module _ {s table complete : List ℕ} {at : BitCursor} {i count : ℕ} where
   pub left-payload : Left s at i count table complete → i < count → (row : PayloadRecord) × (next : BitCursor) × (stepAt s at ≡ PayloadStep.Payload row next)
   left-payload l h = go (l .found) (l .listed) (l .counted)
@@ -112,6 +114,18 @@ module _ {s table complete : List ℕ} {at : BitCursor} {i count : ℕ} where
       go : (xs : List Found) → i + length xs ≡ count → sets table (i * 216) (rowsBytes (recordsOf xs)) ≡ complete → table ≡ complete
       go [] e r = r
       go (x ∷ xs) e r = absurd (omega arith)
+
+-- ---- the next payload
+
+pub same-payload : {step : PayloadStep} {r r′ : PayloadRecord} {next next′ : BitCursor} → step ≡ PayloadStep.Payload r next → step ≡ PayloadStep.Payload r′ next′ → (r ≡ r′) × (next ≡ next′)
+same-payload a b = (cc, cc)
+
+-- what stands at c, from its words and the lengths of its parts
+pub compact-found : (s : List ℕ) (c : BitCursor) {x head y size value : ℕ} → x ≡ windowAt s (c .position) → head ≡ headLength x → y ≡ windowAt s (c .position + head) → size ≡ sizeLength y → value ≡ sizeValue y
+    → 5 < head → 0 < size → head + size + value * 8 ≤ bitsRemaining s c
+    → stepAt s c ≡ PayloadStep.Payload (compactRecord x (c .position) head size (head + size + value * 8)) (cursorAt (c .end) (c .position + (head + size + value * 8)))
+compact-found s c a b d f g h k l =
+    rw (g, f, d, b, a) (compact-step s c (rw (b, a) at h) (rw (f, d, b, a) at k) (rw (g, f, d, b, a) at l))
 
 -- ---- a reading
 

@@ -2,27 +2,36 @@
 use mathlib.Core.Path.{_≡_, refl, sym, ap, _∙_}
 use mathlib.Core.List.{List, [], _∷_, _++_, append-nil, append-assoc}
 use Prim.Native.Nat.{ℕ, suc, _+_, _-_, _*_, _/_, _%_, _^_, _<_}
-use native.Mathlib.Nat.{add-zero, zero-add, le-refl}
+use native.Mathlib.Nat.{add-zero, zero-add, div-one, le-refl}
 use native.Mathlib.Numerals.{add-one}
 use native.Mathlib.Omega.{arith}
+use lib.Dec.{lit<}
 use lib.ListN.{length, set, drop, getD}
 use lib.Seq.{sets, sets-eq, drop-cons}
+use Rattle.openjoc_bitio.specs.Bits.{swapOctets}
+use Rattle.openjoc_bitio.proofs.Bits.{swap-octet}
 use Rattle.emdf_form.specs.Form.{bigEndian, words}
 use Rattle.emdf_form.proofs.Form.{length-big-endian, length-words}
 
--- one byte of a word stored, and none left
-pub byte-stored : (l : List ℕ) (at i v : ℕ) → i < 8
-    → sets (set l (at + i) (v / 2 ^ (56 - 8 * i) % 256)) (at + (i + 1)) (bigEndian (8 - (i + 1)) v) ≡ sets l (at + i) (bigEndian (8 - i) v)
-unfolding bigEndian
-byte-stored l at i v h =
-    let a : 8 - i ≡ suc (8 - (i + 1)) = omega arith in
-    let b : at + (i + 1) ≡ suc (at + i) = omega arith in
-    let d : 56 - 8 * i ≡ 8 * (8 - (i + 1)) = omega arith in
-    rw (a, b, d)
+-- the octets of a word, each by its own store, from the word that has them in the machine's order
+module _ (l : List ℕ) (at v : ℕ) (h : v < 2 ^ 64) where
+  octet : (k : ℕ) → k < 8 → swapOctets v / 2 ^ (8 * k) % 256 ≡ v / 2 ^ (8 * (7 - k)) % 256
+  octet k = swap-octet v k h
 
-pub all-stored : (l : List ℕ) (at n v : ℕ) → n ≡ 0 → sets l at (bigEndian n v) ≡ l
-unfolding bigEndian
-all-stored l at n v e = rw e
+  pub octets-stored : {x : ℕ} → x ≡ swapOctets v
+      → set (set (set (set (set (set (set (set l at (x % 256)) (at + 1) (x / 2 ^ 8 % 256)) (at + 2) (x / 2 ^ 16 % 256)) (at + 3) (x / 2 ^ 24 % 256)) (at + 4) (x / 2 ^ 32 % 256)) (at + 5) (x / 2 ^ 40 % 256)) (at + 6) (x / 2 ^ 48 % 256)) (at + 7) (x / 2 ^ 56 % 256)
+      ≡ sets l at (bigEndian 8 v)
+  unfolding bigEndian
+  octets-stored e =
+      let first : swapOctets v % 256 ≡ v / 2 ^ 56 % 256 = rw div-one at (octet 0 (lit< tt)) in
+      let b : at + 1 ≡ suc at = omega arith in
+      let c : at + 2 ≡ suc (suc at) = omega arith in
+      let d : at + 3 ≡ suc (suc (suc at)) = omega arith in
+      let f : at + 4 ≡ suc (suc (suc (suc at))) = omega arith in
+      let g : at + 5 ≡ suc (suc (suc (suc (suc at)))) = omega arith in
+      let i : at + 6 ≡ suc (suc (suc (suc (suc (suc at))))) = omega arith in
+      let j : at + 7 ≡ suc (suc (suc (suc (suc (suc (suc at)))))) = omega arith in
+      rw (e, first, octet 1 (lit< tt), octet 2 (lit< tt), octet 3 (lit< tt), octet 4 (lit< tt), octet 5 (lit< tt), octet 6 (lit< tt), octet 7 (lit< tt), div-one, b, c, d, f, g, i, j)
 
 pub sets-append : (l : List ℕ) (i : ℕ) (xs ys : List ℕ) → sets (sets l i xs) (i + length xs) ys ≡ sets l i (xs ++ ys)
 sets-append l i [] ys = rw add-zero

@@ -1,14 +1,18 @@
 // What a C host calls: exported functions on numbers and byte slices. docs/HOST.md has each byte form.
 ghost use mathlib.Core.Path.{_≡_};
 ghost use mathlib.Core.List.{List, [], _∷_};
-ghost use Prim.Native.Nat.{_+_, _*_, _≤_};
+ghost use Prim.Native.Nat.{_+_, _*_, _^_, _≤_, _<_};
 ghost use lib.ListN.{length};
 ghost use lib.Seq.{sets};
+ghost use Rattle.openjoc_bitio.specs.declared.BitCursor.{BitCursor};
+ghost use Rattle.emdf_format.specs.declared.PayloadRecord.{PayloadRecord};
 ghost use Rattle.emdf_format.specs.Reading.{Found, reading};
 ghost use Rattle.emdf_format.specs.Calls.{recordsOf, classify, moveBody, foundAt, scratchAfter};
 ghost use Rattle.emdf_format.specs.Profile.{verdict};
 ghost use Rattle.emdf_format.specs.Edits.{bodyEdit, settingsEdit, dropEdit, insertEdit, keyEdit, protectionEdit, edited, blank};
-ghost use Rattle.openjoc_emdf.proofs.Walk.{Listed};
+ghost use Rattle.openjoc_emdf.proofs.Walk.{Listed, stepAt};
+ghost use Rattle.openjoc_emdf.proofs.Compact.{compactRecord};
+ghost use Rattle.openjoc_emdf.specs.declared.PayloadStep.the-variants.{Payload};
 ghost use Rattle.emdf_form.specs.Form.{bigEndian, words};
 ghost use Rattle.emdf_form.specs.Bits.{replyBytes, newReply, remainingReply, readBitsReply, readBitReply, takeBitsReply, byteAlignReply};
 ghost use Rattle.emdf_form.specs.Fields.{variableBitsReply};
@@ -330,15 +334,73 @@ fn put_rows(table: &mut [u8], s: &[u8], c: BitCursor, count: usize)
     let mut at = c;
     let mut place: usize = 0;
     while place < count {
-        let step = openjoc_emdf::next_payload(s, at);
-        let PayloadStep::Payload(row, next) = step else {
-            // An accepted carrier has count payloads.
-            return;
-        };
-        put_record(table, place * ROW_BYTES, row);
-        at = next;
+        at = put_next(table, place * ROW_BYTES, s, at);
         place += 1;
     }
+}
+
+// The row of the payload at c, and the cursor past it.
+fn put_next(table: &mut [u8], row: usize, s: &[u8], c: BitCursor) -> BitCursor
+    requires { ⌜ row + 216 ≤ length (now table) ⌝ }
+    ensures { λ r. ⌜ ((found : PayloadRecord) (next : BitCursor) → stepAt (now (s .entry)) c ≡ Payload found next → (now (table .exit) ≡ sets (now (table .entry)) row (words (recordWords found))) × (r ≡ next)) ⌝ }
+{
+    let p = c.position;
+    let end = c.end;
+    // So that no sum below is too large.
+    if 0x2000_0000_0000_0000 <= p {
+        return put_found(table, row, s, BitCursor { position: p, end });
+    }
+    let x = openjoc_bitio::window_at(s, p);
+    let head = emdf_settings::head_length(x) as usize;
+    if head <= 5 {
+        return put_found(table, row, s, BitCursor { position: p, end });
+    }
+    let y = openjoc_bitio::window_at(s, p + head);
+    let size = emdf_settings::size_length(y) as usize;
+    if size == 0 {
+        return put_found(table, row, s, BitCursor { position: p, end });
+    }
+    let n = head + size + (emdf_settings::size_value(y) as usize) * 8;
+    if (BitCursor { position: p, end }).bits_remaining(s) < n {
+        return put_found(table, row, s, BitCursor { position: p, end });
+    }
+    put_compact(table, row, x, p, head, size, n);
+    BitCursor {
+        position: p + n,
+        end,
+    }
+}
+
+// The row of a compact payload, whose id and settings are in the word x.
+fn put_compact(table: &mut [u8], row: usize, x: u64, p: usize, head: usize, size: usize, n: usize)
+    requires { ⌜ (row + 216 ≤ length (now table)) × (5 ≤ head) × (head + size ≤ n) × (p + n < 2 ^ 64) ⌝ }
+    ensures { λ _. ⌜ now (table .exit) ≡ sets (now (table .entry)) row (words (recordWords (compactRecord x p head size n))) ⌝ }
+{
+    let config = emdf_settings::compact_config(x << 5);
+    let trace = openjoc_emdf::bit_trace(p, p + 5, p + head, p + head + size, p + n);
+    put_record(
+        table,
+        row,
+        PayloadRecord {
+            id: x >> 59,
+            config,
+            trace,
+        },
+    );
+}
+
+// The row of any payload, by its record.
+fn put_found(table: &mut [u8], row: usize, s: &[u8], c: BitCursor) -> BitCursor
+    requires { ⌜ row + 216 ≤ length (now table) ⌝ }
+    ensures { λ r. ⌜ ((found : PayloadRecord) (next : BitCursor) → stepAt (now (s .entry)) c ≡ Payload found next → (now (table .exit) ≡ sets (now (table .entry)) row (words (recordWords found))) × (r ≡ next)) ⌝ }
+{
+    let step = openjoc_emdf::next_payload(s, c);
+    let PayloadStep::Payload(record, next) = step else {
+        // An accepted carrier has a payload here.
+        return c;
+    };
+    put_record(table, row, record);
+    next
 }
 
 // The id, 18 numbers of settings, 8 of the trace.
@@ -390,9 +452,14 @@ fn put_word(out: &mut [u8], at: usize, v: u64)
     requires { ⌜ at + 8 ≤ length (now out) ⌝ }
     ensures { λ _. ⌜ now (out .exit) ≡ sets (now (out .entry)) at (bigEndian 8 v) ⌝ }
 {
-    let mut i: usize = 0;
-    while i < 8 {
-        out[at + i] = ((v >> (56 - 8 * i)) % 256) as u8;
-        i += 1;
-    }
+    // The octets in the machine's order: the compiler joins the eight stores.
+    let x = openjoc_bitio::swap_octets(v);
+    out[at] = (x % 256) as u8;
+    out[at + 1] = ((x >> 8) % 256) as u8;
+    out[at + 2] = ((x >> 16) % 256) as u8;
+    out[at + 3] = ((x >> 24) % 256) as u8;
+    out[at + 4] = ((x >> 32) % 256) as u8;
+    out[at + 5] = ((x >> 40) % 256) as u8;
+    out[at + 6] = ((x >> 48) % 256) as u8;
+    out[at + 7] = ((x >> 56) % 256) as u8;
 }

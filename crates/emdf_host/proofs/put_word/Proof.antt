@@ -1,71 +1,115 @@
-use Prim.Native.Nat.{_+_, _-_, _≤_}
-use mathlib.Core.Path.{_≡_, refl, sym, _∙_}
-use native.Mathlib.Nat.{add-zero}
+use borrow.Author.Needs.{needs}
 use native.Mathlib.Omega.{arith}
-use lib.ListN.{length, length-set}
-use lib.Seq.{sets}
-use Rattle.emdf_form.specs.Form.{bigEndian}
-use Rattle.emdf_host.proofs.Stored.{byte-stored, all-stored}
+use lib.ListN.{length-set}
+use Rattle.emdf_host.proofs.Stored.{octets-stored}
 use Rattle.emdf_host.proofs.put_word.Statement.{statement}
 use Rattle.emdf_host.proofs.put_word.Tie as tie
 
-abbrev Inv-loop : tie.InvT-loop
-Inv-loop out₀ at v i₀ out i = (i ≤ 8) × (length out ≡ length out₀) × (sets out (at + i) (bigEndian (8 - i) v) ≡ sets out₀ at (bigEndian 8 v))
+swap-octets-requires : tie.Need-swap-octets-requires
+swap-octets-requires c κs = search needs
 
-abbrev μ-loop : tie.MeasureT-loop
-μ-loop out₀ at v i₀ out i = 8 - i
+cast-out : tie.Need-cast-out
+cast-out c = search needs
 
-loop-holds : tie.Need-loop-holds Inv-loop μ-loop
-loop-holds c = (omega arith, refl, rw add-zero)
+slice-write-out : tie.Need-slice-write-out
+slice-write-out c = search needs
 
-mul-out : tie.Need-mul-out Inv-loop μ-loop
-mul-out c = omega arith
+cast-out-2 : tie.Need-cast-out-2
+cast-out-2 c = search needs
 
-sub-out : tie.Need-sub-out Inv-loop μ-loop
-sub-out c = omega arith
+add-out : tie.Need-add-out
+add-out c = search needs
 
-shr-out : tie.Need-shr-out Inv-loop μ-loop
-shr-out c = omega arith
+slice-write-out-2 : tie.Need-slice-write-out-2
+slice-write-out-2 c = simp length-set (omega arith)
 
-cast-out : tie.Need-cast-out Inv-loop μ-loop
-cast-out c = omega arith
+cast-out-3 : tie.Need-cast-out-3
+cast-out-3 c = search needs
 
-add-out : tie.Need-add-out Inv-loop μ-loop
-add-out c = omega arith
+add-out-2 : tie.Need-add-out-2
+add-out-2 c = search needs
 
-slice-write-out : tie.Need-slice-write-out Inv-loop μ-loop
-slice-write-out c = omega arith
+slice-write-out-3 : tie.Need-slice-write-out-3
+slice-write-out-3 c = simp length-set (omega arith)
 
-add-i : tie.Need-add-i Inv-loop μ-loop
-add-i c = omega arith
+cast-out-4 : tie.Need-cast-out-4
+cast-out-4 c = search needs
 
-loop-less : tie.Need-loop-less Inv-loop μ-loop
-loop-less c = omega arith
+add-out-3 : tie.Need-add-out-3
+add-out-3 c = search needs
 
-loop-again : tie.Need-loop-again Inv-loop μ-loop
-loop-again c = (omega arith, simp length-set (c .before .loop .inv .1), byte-stored _ _ _ _ (c .loop-test .taken) ∙ c .before .loop .inv .2)
+slice-write-out-4 : tie.Need-slice-write-out-4
+slice-write-out-4 c = simp length-set (omega arith)
 
-same-length : tie.Need-same-length Inv-loop μ-loop
-same-length c = c .before .loop .inv .1
+cast-out-5 : tie.Need-cast-out-5
+cast-out-5 c = search needs
 
-returns : tie.Need-returns Inv-loop μ-loop
-returns c = sym (all-stored _ _ _ _ (omega arith)) ∙ c .before .loop .inv .2
+add-out-4 : tie.Need-add-out-4
+add-out-4 c = search needs
+
+slice-write-out-5 : tie.Need-slice-write-out-5
+slice-write-out-5 c = simp length-set (omega arith)
+
+cast-out-6 : tie.Need-cast-out-6
+cast-out-6 c = search needs
+
+add-out-5 : tie.Need-add-out-5
+add-out-5 c = search needs
+
+slice-write-out-6 : tie.Need-slice-write-out-6
+slice-write-out-6 c = simp length-set (omega arith)
+
+cast-out-7 : tie.Need-cast-out-7
+cast-out-7 c = search needs
+
+add-out-6 : tie.Need-add-out-6
+add-out-6 c = search needs
+
+slice-write-out-7 : tie.Need-slice-write-out-7
+slice-write-out-7 c = simp length-set (omega arith)
+
+cast-out-8 : tie.Need-cast-out-8
+cast-out-8 c = search needs
+
+add-out-7 : tie.Need-add-out-7
+add-out-7 c = search needs
+
+slice-write-out-8 : tie.Need-slice-write-out-8
+slice-write-out-8 c = simp length-set (omega arith)
+
+same-length : tie.Need-same-length
+same-length c = simp length-set
+
+returns : tie.Need-returns
+returns c = octets-stored _ _ _ (omega arith) (c .swap-octets .ensures)
 
 pub put-word-spec : {M : Type 1} → statement M
 put-word-spec =
     tie.close
     (tie.spec
-    Inv-loop
-    μ-loop
-    loop-holds
-    mul-out
-    sub-out
-    shr-out
+    swap-octets-requires
     cast-out
-    add-out
     slice-write-out
-    add-i
-    loop-less
-    loop-again
+    cast-out-2
+    add-out
+    slice-write-out-2
+    cast-out-3
+    add-out-2
+    slice-write-out-3
+    cast-out-4
+    add-out-3
+    slice-write-out-4
+    cast-out-5
+    add-out-4
+    slice-write-out-5
+    cast-out-6
+    add-out-5
+    slice-write-out-6
+    cast-out-7
+    add-out-6
+    slice-write-out-7
+    cast-out-8
+    add-out-7
+    slice-write-out-8
     same-length
     returns)
