@@ -11,7 +11,7 @@ use Rattle.openjoc_bitio.specs.Bits.{windowAt}
 use Rattle.openjoc_bitio.specs.Cursor.{bitsRemaining}
 use Rattle.openjoc_bitio.specs.declared.BitCursor.{BitCursor}
 use Rattle.emdf_format.specs.Reader.{cursorAt}
-use Rattle.emdf_format.specs.Reading.{Found, Container, reading}
+use Rattle.emdf_format.specs.Reading.{Found, reading}
 use Rattle.emdf_format.specs.Calls.{number, figures, recordsNumber, recordsFigures, bodyFigures, recordsOf, inTable, Records, unrecorded}
 use Rattle.emdf_format.specs.declared.EmdfError.{EmdfError}
 use Rattle.emdf_format.specs.declared.RecordsError.{RecordsError}
@@ -23,19 +23,20 @@ use Rattle.emdf_format.specs.declared.Optional.the-variants.{Absent, Present}
 use Rattle.emdf_format.specs.declared.EmdfPayloadConfig.{EmdfPayloadConfig}
 use Rattle.emdf_format.specs.declared.PayloadRecord.{PayloadRecord}
 use Rattle.emdf_settings.specs.Words.{headLength, sizeLength, sizeValue}
-use Rattle.openjoc_emdf.specs.Answers.{parsedEmdf, containerOf, openAnswer}
+use Rattle.openjoc_emdf.specs.Answers.{containerOf, openAnswer}
 use Rattle.openjoc_emdf.specs.declared.ParsedEmdf.{ParsedEmdf}
 use Rattle.openjoc_emdf.specs.declared.OpenAnswer.the-variants as OpenAnswer
 use Rattle.openjoc_emdf.specs.declared.PayloadStep.{PayloadStep}
 use Rattle.openjoc_emdf.specs.declared.PayloadStep.the-variants as PayloadStep
 use Rattle.openjoc_emdf.proofs.Walk.{Listed, listed-step, stepAt, Opened, opened, unopened}
-use Rattle.openjoc_emdf.proofs.Compact.{compactRecord, compact-step}
+use Rattle.openjoc_emdf.specs.Compact.{compactRecord}
+use Rattle.openjoc_emdf.proofs.Compact.{compact-step}
 use Rattle.emdf_form.specs.Form.{bigEndian, words}
 use Rattle.emdf_form.specs.Bits.{figured}
-use Rattle.emdf_form.specs.Carriers.{padded, parsedWords, readInto, readNumber, readWords, optionalWords, configWords, traceWords, recordWords, rowsBytes, rowsAfter, moveNumber, moveWords}
+use Rattle.emdf_form.specs.Carriers.{padded, parsedListed, readInto, readNumber, readWords, optionalWords, configWords, traceWords, recordWords, rowsBytes, rowsAfter, moveNumber, moveWords}
 use Rattle.emdf_form.specs.declared.Figures.{Figures}
 use Rattle.emdf_form.proofs.Form.{length-words, elements-all}
-use Rattle.emdf_form.proofs.Carriers.{two-figures, figured-words}
+use Rattle.emdf_form.proofs.Carriers.{two-figures, figured-words, parsed-listed}
 use Rattle.emdf_host.proofs.Stored.{sets-append, words-stored, words-then}
 
 -- ---- a row
@@ -168,13 +169,13 @@ module _ (s table : List ℕ) where
     unfolding readInto inTable recordsNumber recordsFigures
     refused-table l = refused-answers (TableTooShort count) (rw (o .is, counted, lt-leb _ _ l))
 
-    pub read-carrier : {r : ℕ} {w answer table′ : List ℕ} → count ≤ length table / 216 → (r ≡ 0) × (answer ≡ words w) → ((n : ℕ) (k : Container) → p ≡ parsedEmdf n k → w ≡ parsedWords n k)
+    pub read-carrier : {r : ℕ} {w answer table′ : List ℕ} → count ≤ length table / 216 → (r ≡ 0) × (answer ≡ words w) → w ≡ parsedListed p
         → ((xs : List Found) → Listed (take n s) c xs → length xs ≡ count → table′ ≡ sets table 0 (rowsBytes (recordsOf xs)))
         → Answers (readInto s table) r answer table table′
     unfolding readInto inTable readNumber readWords rowsAfter
     read-carrier l e g f =
         rw (o .is, counted, le-leb _ _ l)
-        (e .0, e .1 ∙ ap words (g n (o .container) (sym (o .parsed))), f (o .container .found) (o .listed) counted ∙ rows-after table (o .container .found) (omega (arith, counted)))
+        (e .0, e .1 ∙ ap words (g ∙ ap parsedListed (sym (o .parsed)) ∙ parsed-listed n (o .container)), f (o .container .found) (o .listed) counted ∙ rows-after table (o .container .found) (omega (arith, counted)))
 
 -- ---- two numbers, and a body's move
 

@@ -1,4 +1,3 @@
 pub mod Stored
-pub mod Lengths
 pub mod Carriers
 pub mod Edits

@@ -11,7 +11,7 @@ ghost use Rattle.emdf_format.specs.Calls.{recordsOf, classify, moveBody, foundA
 ghost use Rattle.emdf_format.specs.Profile.{verdict};
 ghost use Rattle.emdf_format.specs.Edits.{bodyEdit, settingsEdit, dropEdit, insertEdit, keyEdit, protectionEdit, edited, blank};
 ghost use Rattle.openjoc_emdf.proofs.Walk.{Listed, stepAt};
-ghost use Rattle.openjoc_emdf.proofs.Compact.{compactRecord};
+ghost use Rattle.openjoc_emdf.specs.Compact.{compactRecord};
 ghost use Rattle.openjoc_emdf.specs.declared.PayloadStep.the-variants.{Payload};
 ghost use Rattle.emdf_form.specs.Form.{bigEndian, words};
 ghost use Rattle.emdf_form.specs.Bits.{replyBytes, newReply, remainingReply, readBitsReply, readBitReply, takeBitsReply, byteAlignReply};

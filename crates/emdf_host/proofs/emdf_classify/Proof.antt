@@ -1,6 +1,8 @@
 use borrow.Author.Needs.{needs}
 use mathlib.Core.Path.{ap, _∙_}
 use Rattle.emdf_form.specs.Form.{words}
+use Rattle.emdf_form.specs.Carriers.{classReturned, classListed}
+use Rattle.emdf_form.proofs.Carriers.{class-returned, class-listed}
 use Rattle.emdf_host.proofs.Stored.{words-whole}
 use Rattle.emdf_host.proofs.emdf_classify.Statement.{statement}
 use Rattle.emdf_host.proofs.emdf_classify.Tie as tie
@@ -23,7 +25,7 @@ class-number-requires c κs = search needs
 returns : tie.Need-returns
 returns c =
     let k = c .before .before .before .before .before .classify-emdf-carrier .ensures in
-    (c .class-number .ensures _ k, c .before .put-words .ensures ∙ words-whole _ _ (search needs) ∙ ap words (c .before .before .before .before .class-words .ensures _ k))
+    (c .class-number .ensures ∙ ap classReturned k ∙ class-returned _, c .before .put-words .ensures ∙ words-whole _ _ (search needs) ∙ ap words (c .before .before .before .before .class-words .ensures ∙ ap classListed k ∙ class-listed _))
 
 pub emdf-classify-spec : {M : Type 1} → statement M
 emdf-classify-spec =

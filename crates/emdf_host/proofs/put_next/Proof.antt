@@ -1,14 +1,14 @@
 use borrow.Author.Needs.{needs}
 use Prim.Native.Nat.{_^_, _≤_, _<_}
 use native.Mathlib.Omega.{arith}
-use Rattle.emdf_host.proofs.Lengths.{head-most, size-most, value-most}
+use Rattle.emdf_settings.proofs.Compact.{head-most, size-most, value-most}
 use Rattle.emdf_host.proofs.Carriers.{same-payload, compact-found}
 use Rattle.emdf_host.proofs.put_next.Statement.{statement}
 use Rattle.emdf_host.proofs.put_next.Tie as tie
 
 -- so that no sum is too large
 bounds : (c : tie.After-size-value) → (c .before .before .before .before .before .head-length .result ≤ 55) × (c .before .before .size-length .result ≤ 18) × (c .size-value .result < 2 ^ 17)
-bounds c = (head-most _ (c .before .before .before .before .before .head-length .ensures) (omega arith), size-most _ (c .before .before .size-length .ensures), value-most _ (omega arith) (c .size-value .ensures))
+bounds c = (rw (c .before .before .before .before .before .head-length .ensures) (head-most _), rw (c .before .before .size-length .ensures) (size-most _), rw (c .size-value .ensures) (value-most _ (omega arith)))
 
 put-found-requires : tie.Need-put-found-requires
 put-found-requires c κs = search needs
@@ -35,7 +35,7 @@ returns-2 : tie.Need-returns-2
 returns-2 c = search needs
 
 add-window-at : tie.Need-add-window-at
-add-window-at c = omega (arith, head-most _ (c .before .head-length .ensures) (omega arith))
+add-window-at c = omega (arith, c .before .head-length .ensures, head-most (c .before .before .window-at .result))
 
 window-at-requires-2 : tie.Need-window-at-requires-2
 window-at-requires-2 c κs = search needs
@@ -53,7 +53,7 @@ returns-3 : tie.Need-returns-3
 returns-3 c = search needs
 
 add-n : tie.Need-add-n
-add-n c = omega (arith, head-most _ (c .before .before .before .before .head-length .ensures) (omega arith), size-most _ (c .before .size-length .ensures))
+add-n c = omega (arith, c .before .before .before .before .head-length .ensures, head-most (c .before .before .before .before .before .window-at .result), c .before .size-length .ensures, size-most (c .before .before .window-at2 .result))
 
 size-value-requires : tie.Need-size-value-requires
 size-value-requires c κs = search needs
