@@ -6,7 +6,7 @@ use Prim.Native.Nat.{ℕ, suc, zero, _+_, _-_, _*_, _/_, _%_, _^_, _≤_, _<_}
 use native.Mathlib.Omega.{arith}
 use native.Mathlib.Nat.{add-assoc, add-zero}
 use native.Mathlib.Decide.{decLe}
-use lib.Dec.{T, eqb, ltb, lit≤, lit<, eqb→eq, eqb-refl}
+use lib.Dec.{T, leb→le, eqb, ltb, lit≤, lit<, eqb→eq, eqb-refl}
 use lib.Pow.{shl-shr, shr-shr, field, low, pow-mono}
 use borrow.Author.Tests.{eq-eqb, ne-eqb, lt-ltb, le-leb}
 use Rattle.openjoc_bitio.specs.Choice.{if_then_else_}
@@ -20,7 +20,7 @@ use Rattle.emdf_format.specs.declared.Optional.{Optional}
 use Rattle.emdf_format.specs.declared.Optional.the-variants.{Absent, Present}
 use Rattle.emdf_format.proofs.Standing.{bitLimit, bind-go, ask-go, choose-this, choose-that, give-go, ask-fine, T-of, T-not-of, neqb→ne, and, both, fits, is-true}
 use Rattle.emdf_format.proofs.Loops.{bits-there}
-use Rattle.emdf_settings.specs.Words.{top, after, headLength, sizeLength, sizeValue, codecSpan, codecEnds, controlsSpan, compactControls, flaggedAfter, afterTiming, afterGroup, afterCodec, compactSettings, compactConfig, configLength, flaggedSpan, flaggedValue, flaggedEnds, presentSpan, presentValue}
+use Rattle.emdf_settings.specs.Words.{top, after, headLength, sizeLength, sizeValue, codecSpan, codecEnds, controlsSpan, compactControls, flaggedAfter, afterTiming, headSpan, variableSpan, variableValue, variableEnds, afterGroup, afterCodec, compactSettings, compactConfig, configLength, flaggedSpan, flaggedValue, flaggedEnds, presentSpan, presentValue}
 
 -- ---- a word
 
@@ -71,18 +71,18 @@ module _ {s : List ℕ} {p m x : ℕ} (w : Word s p m x) (e : ℕ) where
   word-present false n h k l = choose-that false _ _ tt (give-go s e refl (omega arith))
 
   -- a flag and, where it is set, a field of n bits and a bit that is zero
-  pub word-flagged : (f : Reader ℕ) (n : ℕ) → n + 2 ≤ m → m ≤ 64 → flaggedEnds n x ≡ true → p + flaggedSpan n x ≤ bitLimit s e
+  pub word-flagged : (f : Reader ℕ) (n : ℕ) → flaggedSpan n x ≤ m → m ≤ 64 → flaggedEnds n x ≡ true → p + flaggedSpan n x ≤ bitLimit s e
       → (bitsValue s (p + 1 + n) 1 ≡ 0 → p + (n + 2) ≤ bitLimit s e → f s e (p + 1) ≡ got (bitsValue s (p + 1) n) (p + (n + 2)))
       → flagged f s e p ≡ got (flaggedValue n x) (p + flaggedSpan n x)
   unfolding flagged present flaggedEnds flaggedSpan flaggedValue
-  word-flagged f n h k t l g = by-flag (eqb (top 1 x) 0) refl t l
+  word-flagged f n h k t l g = by-flag (eqb (top 1 x) 0) refl h t l
     where
-      by-flag : (z : Bool) → eqb (top 1 x) 0 ≡ z → (z || eqb (top (n + 2) x % 2) 0) ≡ true → p + (if z then 1 else n + 2) ≤ bitLimit s e
+      by-flag : (z : Bool) → eqb (top 1 x) 0 ≡ z → (if z then 1 else n + 2) ≤ m → (z || eqb (top (n + 2) x % 2) 0) ≡ true → p + (if z then 1 else n + 2) ≤ bitLimit s e
           → flagged f s e p ≡ got (if z then Absent else Present (top n (after 1 x))) (p + (if z then 1 else n + 2))
-      by-flag true i t l =
+      by-flag true i h t l =
           let o : top 1 x ≡ 0 = eqb→eq (top 1 x) 0 (T-of i) in
           bind-go (bits 1) _ (word-bits 1 (lit≤ tt) (omega arith) l) (choose-that _ _ _ (rw o tt) (give-go s e refl refl))
-      by-flag false i t l =
+      by-flag false i h t l =
           let o : top 1 x ≡ 1 = flag-set (top 1 x) (flag-range w (omega arith)) i in
           let y : p + (n + 1) ≡ p + 1 + n = omega arith in
           let z : n + 1 + 1 ≡ n + 2 = omega arith in
@@ -113,12 +113,89 @@ one-group w n s e p h k z t l =
     (bind-go (bits 1) _ (bits-there 1 s e (p + w) (lit≤ tt) (omega arith))
     (choose-this _ _ _ (rw z tt) (give-go s e (omega arith) (omega arith))))))
 
+-- sums of two groups of w bits lie in a word
+abbrev Sums : ℕ → Type 0
+Sums w = (v u : ℕ) → v < 2 ^ w → u < 2 ^ w → (0 + v) * 2 ^ w + 2 ^ w + u < 2 ^ 64
+
+-- a variable field of two groups
+two-groups : (w n : ℕ) (s : List ℕ) (e p : ℕ) {q : ℕ} → 0 < w → w ≤ 63 → Sums w → bitsValue s (p + w) 1 ≡ 1 → bitsValue s (p + w + 1 + w) 1 ≡ 0 → p + (2 * w + 2) ≡ q → q ≤ bitLimit s e
+    → variableBits w (suc (suc n)) s e p ≡ got (bitsValue s p w * 2 ^ w + 2 ^ w + bitsValue s (p + w + 1) w) q
+unfolding variableBits groupsFrom
+two-groups w n s e p h k sums more z t l =
+    let f : w ≤ 64 = omega arith in
+    let g : 2 ^ w ≤ 2 ^ 64 = pow-mono f in
+    let a = value-range s p w in
+    let b = value-range s (p + w + 1) w in
+    let first : 0 + bitsValue s p w < 2 ^ 64 = omega (arith, a, g) in
+    let second : (0 + bitsValue s p w) * 2 ^ w + 2 ^ w + bitsValue s (p + w + 1) w < 2 ^ 64 = sums (bitsValue s p w) (bitsValue s (p + w + 1) w) a b in
+    let start : (0 + bitsValue s p w) * 2 ^ w + 2 ^ w < 2 ^ 64 = omega (arith, second) in
+    let v : 0 + bitsValue s p w ≡ bitsValue s p w = omega arith in
+    ask-go _ _ _ (and _ _ (T-of (le-leb 1 w h)) (and _ _ (T-of (le-leb w 63 k)) (T-of (le-leb 1 (suc (suc n)) (omega arith)))))
+    (bind-go (bits w) _ (bits-there w s e p f (omega arith))
+    (ask-go _ _ _ (T-of (lt-ltb _ _ first))
+    (bind-go (bits 1) _ (bits-there 1 s e (p + w) (lit≤ tt) (omega arith))
+    (choose-that _ _ _ (rw more tt)
+    (ask-go _ _ _ (T-of (lt-ltb 0 (suc n) (omega arith)))
+    (ask-go _ _ _ (T-of (lt-ltb _ _ start))
+    (bind-go (bits w) _ (bits-there w s e (p + w + 1) f (omega arith))
+    (ask-go _ _ _ (T-of (lt-ltb _ _ second))
+    (bind-go (bits 1) _ (bits-there 1 s e (p + w + 1 + w) (lit≤ tt) (omega arith))
+    (choose-this _ _ _ (rw z tt) (give-go s e (rw v) (omega arith))))))))))))
+
 module _ {s : List ℕ} {p m x : ℕ} (w : Word s p m x) (l : m ≤ 64) (e : ℕ) where
-  offset-found : 13 ≤ m → flaggedEnds 11 x ≡ true → p + flaggedSpan 11 x ≤ bitLimit s e → flagged sampleOffset s e p ≡ got (flaggedValue 11 x) (p + flaggedSpan 11 x)
+  offset-found : flaggedSpan 11 x ≤ m → flaggedEnds 11 x ≡ true → p + flaggedSpan 11 x ≤ bitLimit s e → flagged sampleOffset s e p ≡ got (flaggedValue 11 x) (p + flaggedSpan 11 x)
   offset-found h t k = word-flagged w e sampleOffset 11 h l t k (λ z j. offset-read s e (p + 1) z (omega arith) j)
 
-  variable-found : (n limit : ℕ) → 0 < n → n ≤ 63 → n + 2 ≤ m → flaggedEnds n x ≡ true → p + flaggedSpan n x ≤ bitLimit s e → flagged (variableBits n (suc limit)) s e p ≡ got (flaggedValue n x) (p + flaggedSpan n x)
-  variable-found n limit a b h t k = word-flagged w e (variableBits n (suc limit)) n h l t k (λ z j. one-group n limit s e (p + 1) a b z (omega arith) j)
+  -- the more bit of a flagged field's first group, and its value
+  more-bit : (n : ℕ) → n + 2 ≤ m → bitsValue s (p + 1 + n) 1 ≡ top (n + 2) x % 2
+  more-bit n h =
+      let y : p + (n + 1) ≡ p + 1 + n = omega arith in
+      let z : n + 1 + 1 ≡ n + 2 = omega arith in
+      ap (λ (q : ℕ). bitsValue s q 1) (sym y) ∙ sym (word-low w (n + 1) 1 (omega arith)) ∙ ap (λ (q : ℕ). top q x % 2) z
+
+  first-value : (n : ℕ) → n + 1 ≤ m → bitsValue s (p + 1) n ≡ top n (after 1 x)
+  first-value n h = sym (word-after 1 l (omega arith) w .is n (omega arith))
+
+  -- those of its second group
+  last-bit : (n : ℕ) → 2 * n + 3 ≤ m → bitsValue s (p + 1 + n + 1 + n) 1 ≡ top (2 * n + 3) x % 2
+  last-bit n h =
+      let y : p + (2 * n + 2) ≡ p + 1 + n + 1 + n = omega arith in
+      let z : 2 * n + 2 + 1 ≡ 2 * n + 3 = omega arith in
+      ap (λ (q : ℕ). bitsValue s q 1) (sym y) ∙ sym (word-low w (2 * n + 2) 1 (omega arith)) ∙ ap (λ (q : ℕ). top q x % 2) z
+
+  second-value : (n : ℕ) → 2 * n + 2 ≤ m → bitsValue s (p + 1 + n + 1) n ≡ top n (after (n + 2) x)
+  second-value n h =
+      let y : p + (n + 2) ≡ p + 1 + n + 1 = omega arith in
+      ap (λ (q : ℕ). bitsValue s q n) (sym y) ∙ sym (word-after (n + 2) l (omega arith) w .is n (omega arith))
+
+  duration-found : flaggedSpan 11 x ≤ m → flaggedEnds 11 x ≡ true → p + flaggedSpan 11 x ≤ bitLimit s e → flagged (variableBits 11 2) s e p ≡ got (flaggedValue 11 x) (p + flaggedSpan 11 x)
+  duration-found h t k = word-flagged w e (variableBits 11 2) 11 h l t k (λ z j. one-group 11 1 s e (p + 1) (lit< tt) (lit≤ tt) z (omega arith) j)
+
+  variable-found : (n limit : ℕ) → 0 < n → n ≤ 63 → Sums n → variableSpan n x ≤ m → variableEnds n x ≡ true → p + variableSpan n x ≤ bitLimit s e
+      → flagged (variableBits n (suc (suc limit))) s e p ≡ got (variableValue n x) (p + variableSpan n x)
+  unfolding flagged present variableEnds variableSpan variableValue
+  variable-found n limit a b sums h t k = by-flags (eqb (top 1 x) 0) refl (eqb (top (n + 2) x % 2) 0) refl h t k
+    where
+      by-flags : (z : Bool) → eqb (top 1 x) 0 ≡ z → (y : Bool) → eqb (top (n + 2) x % 2) 0 ≡ y → (if z then 1 else (if y then n + 2 else 2 * n + 3)) ≤ m
+          → (z || (y || eqb (top (2 * n + 3) x % 2) 0)) ≡ true → p + (if z then 1 else (if y then n + 2 else 2 * n + 3)) ≤ bitLimit s e
+          → flagged (variableBits n (suc (suc limit))) s e p
+          ≡ got (if z then Absent else Present (if y then top n (after 1 x) else top n (after 1 x) * 2 ^ n + 2 ^ n + top n (after (n + 2) x))) (p + (if z then 1 else (if y then n + 2 else 2 * n + 3)))
+      by-flags true i y j h t k =
+          let o : top 1 x ≡ 0 = eqb→eq (top 1 x) 0 (T-of i) in
+          bind-go (bits 1) _ (word-bits w e 1 (lit≤ tt) (omega arith) k) (choose-that _ _ _ (rw o tt) (give-go s e refl refl))
+      by-flags false i true j h t k =
+          let o : top 1 x ≡ 1 = flag-set (top 1 x) (flag-range w (omega arith)) i in
+          let more : bitsValue s (p + 1 + n) 1 ≡ 0 = more-bit n (omega arith) ∙ eqb→eq (top (n + 2) x % 2) 0 (T-of j) in
+          let v : bitsValue s (p + 1) n ≡ top n (after 1 x) = first-value n (omega arith) in
+          bind-go (bits 1) _ (word-bits w e 1 (lit≤ tt) (omega arith) (omega arith)) (choose-this _ _ _ (rw o tt) (bind-go (variableBits n (suc (suc limit))) _ (one-group n (suc limit) s e (p + 1) a b more (omega arith) k) (give-go s e (ap Present v) refl)))
+      by-flags false i false j h t k =
+          let o : top 1 x ≡ 1 = flag-set (top 1 x) (flag-range w (omega arith)) i in
+          let g = rw (← more-bit n (omega arith)) at j in
+          let more : bitsValue s (p + 1 + n) 1 ≡ 1 = flag-set (bitsValue s (p + 1 + n) 1) (value-range s (p + 1 + n) 1) g in
+          let v : bitsValue s (p + 1) n ≡ top n (after 1 x) = first-value n (omega arith) in
+          let u : bitsValue s (p + 1 + n + 1) n ≡ top n (after (n + 2) x) = second-value n (omega arith) in
+          let z : bitsValue s (p + 1 + n + 1 + n) 1 ≡ 0 = last-bit n (omega arith) ∙ eqb→eq (top (2 * n + 3) x % 2) 0 (T-of t) in
+          bind-go (bits 1) _ (word-bits w e 1 (lit≤ tt) (omega arith) (omega arith)) (choose-this _ _ _ (rw o tt) (bind-go (variableBits n (suc (suc limit))) _ (two-groups n limit s e (p + 1) a b sums more z (omega arith) k) (give-go s e (rw (v, u)) refl)))
 
   -- the codec data
   codec-found : 9 ≤ m → codecEnds x ≡ true → p + codecSpan x ≤ bitLimit s e → codecData s e p ≡ got (top 1 x) (p + codecSpan x)
@@ -246,91 +323,63 @@ controls-range t x = go (eqb (top 1 x) 1) t (eqb (top 2 x) 0)
 
 -- ---- all of the settings
 
-flagged-most : (n x : ℕ) → flaggedSpan n x ≤ n + 2
-unfolding flaggedSpan
-flagged-most n x = go (eqb (top 1 x) 0)
-  where
-    go : (t : Bool) → (if t then 1 else n + 2) ≤ n + 2
-    go true = omega arith
-    go false = omega arith
+compact-span : (x : ℕ) → compactSettings x ≡ true → headSpan x ≤ 41
+unfolding compactSettings
+compact-span x t = fits (both (T-of t)) λ t₁ r₁. fits (both r₁) λ t₂ r₂. fits (both r₂) λ t₃ r₃. fits (both r₃) λ t₄ t₅. leb→le (headSpan x) 41 t₅
 
-codec-most : (x : ℕ) → codecSpan (afterGroup x) ≤ 9
-unfolding codecSpan
-codec-most x = let y = afterTiming x in let f : top 1 (after (flaggedSpan 2 y) y) < 2 = omega arith in omega (arith, f)
-
-pub config-most : (x : ℕ) → compactSettings x ≡ true → configLength x ≤ 50
+pub config-most : (x : ℕ) → compactSettings x ≡ true → configLength x ≤ 52
 unfolding configLength
 config-most x t =
-    let i : configLength x ≡ flaggedSpan 11 x + flaggedSpan 11 (flaggedAfter 11 x) + flaggedSpan 2 (afterTiming x) + codecSpan (afterGroup x) + controlsSpan (isPresent (flaggedValue 11 x)) (afterCodec x) = rw t in
-    omega (arith, i, flagged-most 11 x, flagged-most 11 (flaggedAfter 11 x), flagged-most 2 (afterTiming x), codec-most x, controls-range (isPresent (flaggedValue 11 x)) (afterCodec x) .1)
+    let i : configLength x ≡ headSpan x + controlsSpan (isPresent (flaggedValue 11 x)) (afterCodec x) = rw t in
+    omega (arith, i, compact-span x t, controls-range (isPresent (flaggedValue 11 x)) (afterCodec x) .1)
 
-module _ {s : List ℕ} {p m x : ℕ} (w : Word s p m x) (l : m ≤ 64) (h : 50 ≤ m) where
+module _ {s : List ℕ} {p m x : ℕ} (w : Word s p m x) (l : m ≤ 64) (h : 52 ≤ m) (t : compactSettings x ≡ true) where
   abbrev a : ℕ
   a = flaggedSpan 11 x
 
   abbrev b : ℕ
-  b = flaggedSpan 11 (flaggedAfter 11 x)
+  b = flaggedSpan 11 (flaggedAfter x)
 
   abbrev c : ℕ
-  c = flaggedSpan 2 (afterTiming x)
+  c = variableSpan 2 (afterTiming x)
 
   abbrev d : ℕ
   d = codecSpan (afterGroup x)
 
-  after-offset : Word s (p + a) (m - a) (flaggedAfter 11 x)
-  after-offset = word-after a l (omega (arith, flagged-most 11 x)) w
+  few : a + b + c + d ≤ 41
+  few = compact-span x t
+
+  after-offset : Word s (p + a) (m - a) (flaggedAfter x)
+  after-offset = word-after a l (omega (arith, few)) w
 
   after-duration : Word s (p + a + b) (m - a - b) (afterTiming x)
-  after-duration = word-after b (omega arith) (omega (arith, flagged-most 11 x, flagged-most 11 (flaggedAfter 11 x))) after-offset
+  after-duration = word-after b (omega arith) (omega (arith, few)) after-offset
 
   after-group : Word s (p + a + b + c) (m - a - b - c) (afterGroup x)
-  after-group = word-after c (omega arith) (omega (arith, flagged-most 11 x, flagged-most 11 (flaggedAfter 11 x), flagged-most 2 (afterTiming x))) after-duration
+  after-group = word-after c (omega arith) (omega (arith, few)) after-duration
 
   after-codec : Word s (p + a + b + c + d) (m - a - b - c - d) (afterCodec x)
-  after-codec = word-after d (omega arith) (omega (arith, flagged-most 11 x, flagged-most 11 (flaggedAfter 11 x), flagged-most 2 (afterTiming x), codec-most x)) after-group
+  after-codec = word-after d (omega arith) (omega (arith, few)) after-group
 
-  pub config-found : (e : ℕ) → compactSettings x ≡ true → p + configLength x ≤ bitLimit s e → payloadConfig s e p ≡ got (compactConfig x) (p + configLength x)
+  pub config-found : (e : ℕ) → p + configLength x ≤ bitLimit s e → payloadConfig s e p ≡ got (compactConfig x) (p + configLength x)
   unfolding payloadConfig compactConfig compactSettings configLength
-  config-found e t k =
-      let u = flagged-most 11 x in
-      let v = flagged-most 11 (flaggedAfter 11 x) in
-      let r = flagged-most 2 (afterTiming x) in
+  config-found e k =
+      let r = controls-range (isPresent (flaggedValue 11 x)) (afterCodec x) in
       let i : configLength x ≡ a + b + c + d + controlsSpan (isPresent (flaggedValue 11 x)) (afterCodec x) = rw t in
       let j : p + configLength x ≡ p + a + b + c + d + controlsSpan (isPresent (flaggedValue 11 x)) (afterCodec x) = omega (arith, i) in
-      fits (both (T-of t)) λ t₁ t₂₃₄.
-      fits (both t₂₃₄) λ t₂ t₃₄.
-      fits (both t₃₄) λ t₃ t₄.
+      fits (both (T-of t)) λ t₁ r₁.
+      fits (both r₁) λ t₂ r₂.
+      fits (both r₂) λ t₃ r₃.
+      fits (both r₃) λ t₄ t₅.
       rw j
-      (bind-go (flagged sampleOffset) _ (offset-found w l e (omega arith) (is-true _ t₁) (omega (arith, i)))
-      (bind-go (flagged (variableBits 11 2)) _ (variable-found after-offset (omega arith) e 11 1 (lit< tt) (lit≤ tt) (omega (arith, u)) (is-true _ t₂) (omega (arith, i)))
-      (bind-go (flagged (variableBits 2 31)) _ (variable-found after-duration (omega arith) e 2 30 (lit< tt) (lit≤ tt) (omega (arith, u, v)) (is-true _ t₃) (omega (arith, i)))
-      (bind-go codecData _ (codec-found after-group (omega arith) e (omega (arith, u, v, r)) (is-true _ t₄) (omega (arith, i)))
-      (bind-go (bits 1) _ (word-bits after-codec e 1 (lit≤ tt) (omega (arith, u, v, r, codec-most x)) (omega (arith, j, controls-range (isPresent (flaggedValue 11 x)) (afterCodec x) .0)))
-      (controls-found after-codec (omega arith) (omega (arith, u, v, r, codec-most x)) (flaggedValue 11 x) e _ _ _ (omega (arith, j))))))))
+      (bind-go (flagged sampleOffset) _ (offset-found w l e (omega (arith, few)) (is-true _ t₁) (omega (arith, i)))
+      (bind-go (flagged (variableBits 11 2)) _ (duration-found after-offset (omega arith) e (omega (arith, few)) (is-true _ t₂) (omega (arith, i)))
+      (bind-go (flagged (variableBits 2 31)) _ (variable-found after-duration (omega arith) e 2 29 (lit< tt) (lit≤ tt) (λ v u f g. omega (arith, f, g)) (omega (arith, few)) (is-true _ t₃) (omega (arith, i)))
+      (bind-go codecData _ (codec-found after-group (omega arith) e (omega (arith, few)) (is-true _ t₄) (omega (arith, i)))
+      (bind-go (bits 1) _ (word-bits after-codec e 1 (lit≤ tt) (omega (arith, few)) (omega (arith, j, r)))
+      (controls-found after-codec (omega arith) (omega (arith, few)) (flaggedValue 11 x) e _ _ _ (omega (arith, j))))))))
 
 -- ---- an id and a size
-
--- a size of two groups
-two-groups : (s : List ℕ) (e p : ℕ) → bitsValue s (p + 8) 1 ≡ 1 → bitsValue s (p + 8 + 1 + 8) 1 ≡ 0 → p + 18 ≤ bitLimit s e
-    → variableBits 8 2 s e p ≡ got (bitsValue s p 8 * 2 ^ 8 + 2 ^ 8 + bitsValue s (p + 8 + 1) 8) (p + 18)
-unfolding variableBits groupsFrom _&_
-two-groups s e p h z l =
-    let a = value-range s p 8 in
-    let b = value-range s (p + 8 + 1) 8 in
-    let first : 0 + bitsValue s p 8 < 2 ^ 64 = omega (arith, a) in
-    let start : (0 + bitsValue s p 8) * 2 ^ 8 + 2 ^ 8 < 2 ^ 64 = omega (arith, a) in
-    let second : (0 + bitsValue s p 8) * 2 ^ 8 + 2 ^ 8 + bitsValue s (p + 8 + 1) 8 < 2 ^ 64 = omega (arith, a, b) in
-    ask-go _ _ _ tt
-    (bind-go (bits 8) _ (bits-there 8 s e p (lit≤ tt) (omega arith))
-    (ask-go _ _ _ (T-of (lt-ltb _ _ first))
-    (bind-go (bits 1) _ (bits-there 1 s e (p + 8) (lit≤ tt) (omega arith))
-    (choose-that _ _ _ (rw h tt)
-    (ask-go _ _ _ tt
-    (ask-go _ _ _ (T-of (lt-ltb _ _ start))
-    (bind-go (bits 8) _ (bits-there 8 s e (p + 8 + 1) (lit≤ tt) (omega arith))
-    (ask-go _ _ _ (T-of (lt-ltb _ _ second))
-    (bind-go (bits 1) _ (bits-there 1 s e (p + 8 + 1 + 8) (lit≤ tt) (omega arith))
-    (choose-this _ _ _ (rw z tt) (give-go s e (omega arith) (omega arith))))))))))))
 
 module _ {s : List ℕ} {p m x : ℕ} (w : Word s p m x) (l : m ≤ 64) (e : ℕ) where
   -- an id below the escape
@@ -354,7 +403,7 @@ module _ {s : List ℕ} {p m x : ℕ} (w : Word s p m x) (l : m ≤ 64) (e : ℕ
           let d : p + 9 ≡ p + 8 + 1 = omega arith in
           let f₁ : bitsValue s p 8 ≡ top 8 x = sym (w .is 8 (omega arith)) in
           let f₂ : bitsValue s (p + 8 + 1) 8 ≡ top 17 x % 2 ^ 8 = ap (λ (q : ℕ). bitsValue s q 8) (sym d) ∙ sym (word-low w 9 8 (omega arith)) in
-          two-groups s e p a (ap (λ (q : ℕ). bitsValue s q 1) (sym c) ∙ b) j ∙ rw (f₁, f₂)
+          two-groups 8 0 s e p (lit< tt) (lit≤ tt) (λ v u f g. omega (arith, f, g)) a (ap (λ (q : ℕ). bitsValue s q 1) (sym c) ∙ b) refl j ∙ rw (f₁, f₂)
       by-first false i false f k j = absurd (omega arith)
 
 -- ---- what a head's length says
@@ -382,10 +431,10 @@ head-of x z h = go (eqb (top 5 x) 31) refl (compactSettings (after 5 x)) refl
 
 -- ---- how much there can be
 
-pub head-most : (x : ℕ) → headLength x ≤ 55
+pub head-most : (x : ℕ) → headLength x ≤ 57
 head-most x = by-id (eqb (top 5 x) 0) refl
   where
-    by-id : (t : Bool) → eqb (top 5 x) 0 ≡ t → headLength x ≤ 55
+    by-id : (t : Bool) → eqb (top 5 x) 0 ≡ t → headLength x ≤ 57
     by-id true z = omega (arith, head-end x z)
     by-id false z = elim (decLe 1 (headLength x)) [
       | yes k ↦ let d = head-of x z k in omega (arith, d .length, config-most (after 5 x) (d .compact))

@@ -1,14 +1,16 @@
 -- Laws of the fields in a word. Assumes nothing.
-use mathlib.Core.Path.{_≡_, refl}
+use mathlib.Core.Path.{_≡_, refl, _∙_}
 use mathlib.Core.Bool.{Bool, true, false}
-use Prim.Native.Nat.{ℕ, _+_, _-_, _*_, _/_, _%_, _^_, _≤_, _<_}
+use Prim.Native.Nat.{ℕ, suc, _+_, _-_, _*_, _/_, _%_, _^_, _≤_, _<_}
 use native.Mathlib.Omega.{arith}
+use native.Mathlib.Nat.{suc-mul, mod-eq-of-lt}
 use lib.Dec.{eqb}
+use lib.Pow.{shr-lt, shl-lt, pow-mono, pow-add}
 use borrow.Author.Tests.{eq-eqb}
 use Rattle.openjoc_bitio.specs.Choice.{if_then_else_}
 use Rattle.emdf_format.specs.Contents.{_&_, isPresent}
 use Rattle.emdf_format.specs.declared.Optional.the-variants.{Absent, Present}
-use Rattle.emdf_settings.specs.Words.{top, after, flaggedSpan, flaggedValue, flaggedEnds, codecSpan, codecEnds, controlsSpan, compactSettings, configLength}
+use Rattle.emdf_settings.specs.Words.{top, after, flaggedSpan, flaggedValue, flaggedEnds, variableSpan, variableEnds, codecSpan, codecEnds, controlsSpan, compactSettings, configLength}
 
 -- ---- spans
 
@@ -23,6 +25,15 @@ span-few w x l = by (eqb (top 1 x) 0)
     by : (b : Bool) → (if b then 1 else w + 2) ≤ 13
     by true = omega arith
     by false = omega arith
+
+pub variable-few : (w x : ℕ) → w ≤ 11 → variableSpan w x ≤ 25
+unfolding variableSpan
+variable-few w x l = by (eqb (top 1 x) 0) (eqb (top (w + 2) x % 2) 0)
+  where
+    by : (b c : Bool) → (if b then 1 else (if c then w + 2 else 2 * w + 3)) ≤ 25
+    by true c = omega arith
+    by false true = omega arith
+    by false false = omega arith
 
 pub codec-few : (x : ℕ) → x < 2 ^ 64 → codecSpan x ≤ 13
 unfolding codecSpan
@@ -43,7 +54,7 @@ pub ends : {r n : ℕ} (b : Bool) → r ≡ (if b then n else 64) → (r ≡ 64 
 ends true h k = (refl, h)
 ends false h k = absurd (k h)
 
-pub ends-not : {r n : ℕ} (b : Bool) → r ≡ (if b then n else 64) → r ≡ 64 → n ≤ 13 → b ≡ false
+pub ends-not : {r n : ℕ} (b : Bool) → r ≡ (if b then n else 64) → r ≡ 64 → n ≤ 25 → b ≡ false
 ends-not true h e l = absurd (omega arith)
 ends-not false h e l = refl
 
@@ -52,6 +63,10 @@ ends-not false h e l = refl
 flag-clear : (w x : ℕ) → x < 2 ^ 63 → (flaggedSpan w x ≡ 1) × (flaggedEnds w x ≡ true)
 unfolding flaggedSpan flaggedEnds
 flag-clear w x l = let z = eq-eqb (top 1 x) 0 (omega arith) in (rw z, rw z)
+
+variable-clear : (w x : ℕ) → x < 2 ^ 63 → (variableSpan w x ≡ 1) × (variableEnds w x ≡ true)
+unfolding variableSpan variableEnds
+variable-clear w x l = let z = eq-eqb (top 1 x) 0 (omega arith) in (rw z, rw z)
 
 codec-clear : (x : ℕ) → x < 2 ^ 63 → (codecSpan x ≡ 1) × (codecEnds x ≡ true)
 unfolding codecSpan codecEnds
@@ -70,7 +85,27 @@ shortest x h =
     let l4 : x * 2 * 2 * 2 < 2 ^ 63 = omega arith in
     let f1 = flag-clear 11 x l1 in
     let f2 = flag-clear 11 (x * 2) l2 in
-    let f3 = flag-clear 2 (x * 2 * 2) l3 in
+    let f3 = variable-clear 2 (x * 2 * 2) l3 in
     let f4 = codec-clear (x * 2 * 2 * 2) l4 in
     let d = eq-eqb (top 1 (x * 2 * 2 * 2 * 2)) 1 (omega arith) in
     simp (shifted, f1 .0, f1 .1, f2 .0, f2 .1, f3 .0, f3 .1, f4 .0, f4 .1, d)
+
+-- ---- a value of two groups
+
+-- w bits are a number below 2^w
+pub top-few : (w x : ℕ) → w ≤ 64 → x < 2 ^ 64 → top w x < 2 ^ w
+top-few w x h l = let e : w + (64 - w) ≡ 64 = omega arith in shr-lt w (64 - w) (rw e l)
+
+-- where the second group's sum starts, for a first group of at most 11 bits
+pub second-start : (w v : ℕ) → w ≤ 11 → v < 2 ^ w → ((v + 1) * 2 ^ w % 2 ^ 64 ≡ v * 2 ^ w + 2 ^ w) × (v * 2 ^ w + 2 ^ w < 2 ^ 23)
+second-start w v h l =
+    let a : 2 ^ w ≤ 2 ^ 11 = pow-mono h in
+    let e : v + 1 ≡ suc v = omega arith in
+    let f : (v + 1) * 2 ^ w ≡ v * 2 ^ w + 2 ^ w = rw (e, suc-mul) in
+    let few : w + 1 + w ≤ 23 = omega arith in
+    let g : (v + 1) * 2 ^ w < 2 ^ (w + 1 + w) = shl-lt (w + 1) w (let d : 2 ^ (w + 1) ≡ 2 ^ w * 2 = pow-add 2 w 1 in omega (arith, d, l)) in
+    let k : 2 ^ (w + 1 + w) ≤ 2 ^ 23 = pow-mono few in
+    (mod-eq-of-lt (omega (arith, g, k)) ∙ f, omega (arith, f, g, k))
+
+pub last-more : (w : ℕ) → 64 - (2 * w + 3) ≡ 61 - 2 * w
+last-more w = omega arith

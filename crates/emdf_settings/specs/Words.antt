@@ -1,8 +1,9 @@
--- Fields that lie in one word of 64 bits, from its top on. Settings are compact where each of their variable fields is one group and
--- what is reserved is zero: then a word holds them with the id before them. Assumes nothing.
+-- Fields that lie in one word of 64 bits, from its top on. Settings are compact where the duration is one group and the
+-- group id one or two, what is reserved is zero, and at most 41 bits stand before discard: then a word holds them with the id before
+-- them. Assumes nothing.
 use mathlib.Core.Bool.{Bool, true, false, not, _||_}
 use Prim.Native.Nat.{ℕ, _+_, _-_, _*_, _/_, _%_, _^_}
-use lib.Dec.{eqb}
+use lib.Dec.{eqb, leb}
 use Rattle.openjoc_bitio.specs.Choice.{if_then_else_}
 use Rattle.emdf_format.specs.Contents.{_&_, isPresent, isOne, hasAligned, hasPriority}
 use Rattle.emdf_format.specs.declared.Optional.{Optional}
@@ -26,6 +27,20 @@ flaggedValue w x = if eqb (top 1 x) 0 then Absent else Present (top w (after 1 x
 
 unfoldable pub flaggedEnds : ℕ → ℕ → Bool
 flaggedEnds w x = eqb (top 1 x) 0 || eqb (top (w + 2) x % 2) 0
+
+-- ---- a flag and, where it is set, a variable field of one group or two, of w bits each
+
+unfoldable pub variableSpan : ℕ → ℕ → ℕ
+variableSpan w x = if eqb (top 1 x) 0 then 1 else (if eqb (top (w + 2) x % 2) 0 then w + 2 else 2 * w + 3)
+
+unfoldable pub variableValue : ℕ → ℕ → Optional
+variableValue w x =
+    if eqb (top 1 x) 0
+    then Absent
+    else Present (if eqb (top (w + 2) x % 2) 0 then top w (after 1 x) else top w (after 1 x) * 2 ^ w + 2 ^ w + top w (after (w + 2) x))
+
+unfoldable pub variableEnds : ℕ → ℕ → Bool
+variableEnds w x = eqb (top 1 x) 0 || (eqb (top (w + 2) x % 2) 0 || eqb (top (2 * w + 3) x % 2) 0)
 
 -- ---- the codec data's flag and, where it is set, the reserved octet
 
@@ -72,33 +87,34 @@ compactControls sample-offset duration group-id codec x =
 
 -- ---- all of the settings
 
--- the word after a flagged field
-abbrev pub flaggedAfter : ℕ → ℕ → ℕ
-flaggedAfter w x = after (flaggedSpan w x) x
+-- the word after a sample offset or a duration
+abbrev pub flaggedAfter : ℕ → ℕ
+flaggedAfter x = after (flaggedSpan 11 x) x
 
--- after the sample offset, after the duration, after the group id, after the codec data
+-- after both of them, after the group id, after the codec data
 abbrev pub afterTiming : ℕ → ℕ
-afterTiming x = flaggedAfter 11 (flaggedAfter 11 x)
+afterTiming x = flaggedAfter (flaggedAfter x)
 
 abbrev pub afterGroup : ℕ → ℕ
-afterGroup x = flaggedAfter 2 (afterTiming x)
+afterGroup x = after (variableSpan 2 (afterTiming x)) (afterTiming x)
 
 abbrev pub afterCodec : ℕ → ℕ
 afterCodec x = after (codecSpan (afterGroup x)) (afterGroup x)
 
+-- the bits before discard
+abbrev pub headSpan : ℕ → ℕ
+headSpan x = flaggedSpan 11 x + flaggedSpan 11 (flaggedAfter x) + variableSpan 2 (afterTiming x) + codecSpan (afterGroup x)
+
 unfoldable pub compactSettings : ℕ → Bool
-compactSettings x = flaggedEnds 11 x & flaggedEnds 11 (flaggedAfter 11 x) & flaggedEnds 2 (afterTiming x) & codecEnds (afterGroup x)
+compactSettings x = flaggedEnds 11 x & flaggedEnds 11 (flaggedAfter x) & variableEnds 2 (afterTiming x) & codecEnds (afterGroup x) & leb (headSpan x) 41
 
 unfoldable pub compactConfig : ℕ → EmdfPayloadConfig
 compactConfig x =
-    compactControls (flaggedValue 11 x) (flaggedValue 11 (flaggedAfter 11 x)) (flaggedValue 2 (afterTiming x)) (top 1 (afterGroup x)) (afterCodec x)
+    compactControls (flaggedValue 11 x) (flaggedValue 11 (flaggedAfter x)) (variableValue 2 (afterTiming x)) (top 1 (afterGroup x)) (afterCodec x)
 
 -- how many bits compact settings take; 64 where they are not compact
 unfoldable pub configLength : ℕ → ℕ
-configLength x =
-    if compactSettings x
-    then flaggedSpan 11 x + flaggedSpan 11 (flaggedAfter 11 x) + flaggedSpan 2 (afterTiming x) + codecSpan (afterGroup x) + controlsSpan (isPresent (flaggedValue 11 x)) (afterCodec x)
-    else 64
+configLength x = if compactSettings x then headSpan x + controlsSpan (isPresent (flaggedValue 11 x)) (afterCodec x) else 64
 
 -- ---- an id and settings, and a size
 

@@ -2,7 +2,7 @@
 ghost use mathlib.Core.Path.{_≡_};
 ghost use Prim.Native.Nat.{_≤_};
 ghost use Rattle.emdf_format.specs.Contents.{isPresent, isOne, hasAligned, hasPriority};
-ghost use Rattle.emdf_settings.specs.Words.{flaggedSpan, flaggedValue, flaggedEnds, codecSpan, codecEnds, presentSpan, presentValue, controlsSpan, compactControls, compactConfig, configLength, headLength, sizeLength, sizeValue};
+ghost use Rattle.emdf_settings.specs.Words.{flaggedSpan, flaggedValue, flaggedEnds, variableSpan, variableValue, variableEnds, codecSpan, codecEnds, presentSpan, presentValue, controlsSpan, compactControls, compactConfig, configLength, headLength, sizeLength, sizeValue};
 ghost use Rattle.openjoc_bitio.specs.Choice.{if_then_else_};
 use emdf_format::EmdfPayloadConfig;
 use emdf_format::Optional;
@@ -86,6 +86,53 @@ fn flagged_value(x: u64, w: u64) -> Optional
     Optional::Present((x << 1) >> (64 - w))
 }
 
+// A flag and, where it is set, a variable field of one group or two, of w bits each: how many bits that is.
+fn variable_span(x: u64, w: u64) -> u64
+    requires { ⌜ w ≤ 11 ⌝ }
+    ensures { λ r. ⌜ (r ≡ variableSpan w x) × (r ≤ 25) ⌝ }
+{
+    if x >> 63 == 0 {
+        return 1;
+    }
+    if (x >> (62 - w)) % 2 == 0 {
+        return w + 2;
+    }
+    2 * w + 3
+}
+
+// The same, or 64 where there are more groups.
+fn variable_length(x: u64, w: u64) -> u64
+    requires { ⌜ w ≤ 11 ⌝ }
+    ensures { λ r. ⌜ (r ≡ (if variableEnds w x then variableSpan w x else 64)) × (r ≤ 64) ⌝ }
+{
+    if x >> 63 == 0 {
+        return 1;
+    }
+    if (x >> (62 - w)) % 2 == 0 {
+        return w + 2;
+    }
+    if (x >> (61 - 2 * w)) % 2 == 0 {
+        return 2 * w + 3;
+    }
+    64
+}
+
+// Its value: the second group starts past the values of one.
+fn variable_value(x: u64, w: u64) -> Optional
+    requires { ⌜ (1 ≤ w) × (w ≤ 11) ⌝ }
+    ensures { λ r. ⌜ r ≡ variableValue w x ⌝ }
+{
+    if x >> 63 == 0 {
+        return Optional::Absent;
+    }
+    let first = (x << 1) >> (64 - w);
+    if (x >> (62 - w)) % 2 == 0 {
+        return Optional::Present(first);
+    }
+    let second = (x << (w + 2)) >> (64 - w);
+    Optional::Present(((first + 1) << w) + second)
+}
+
 // The codec data's flag and, where it is set, the reserved octet: how many bits that is, or 64 where the octet is not 0.
 fn codec_length(x: u64) -> u64
     ensures { λ r. ⌜ (r ≡ (if codecEnds x then codecSpan x else 64)) × (r ≤ 64) ⌝ }
@@ -117,7 +164,7 @@ fn controls_length(x: u64, offset: bool) -> u64
 
 // How many bits compact settings take; 64 where they are not compact.
 fn config_length(x: u64) -> u64
-    ensures { λ r. ⌜ (r ≡ configLength x) × (r ≤ 267) ⌝ }
+    ensures { λ r. ⌜ (r ≡ configLength x) × (r ≤ 64) ⌝ }
 {
     // The shortest settings, nothing but discard, which many payloads have.
     if x >> 59 == 1 {
@@ -126,9 +173,9 @@ fn config_length(x: u64) -> u64
     parts_length(x)
 }
 
-// The same, part by part; 267 bounds four lengths of at most 64 and one of at most 11.
+// The same, part by part.
 fn parts_length(x: u64) -> u64
-    ensures { λ r. ⌜ (r ≡ configLength x) × (r ≤ 267) ⌝ }
+    ensures { λ r. ⌜ (r ≡ configLength x) × (r ≤ 64) ⌝ }
 {
     let offset = flagged_length(x, 11);
     if offset == 64 {
@@ -140,7 +187,7 @@ fn parts_length(x: u64) -> u64
         return 64;
     }
     let x2 = x1 << duration;
-    let group = flagged_length(x2, 2);
+    let group = variable_length(x2, 2);
     if group == 64 {
         return 64;
     }
@@ -149,7 +196,11 @@ fn parts_length(x: u64) -> u64
     if codec == 64 {
         return 64;
     }
-    offset + duration + group + codec + controls_length(x3 << codec, offset == 13)
+    let head = offset + duration + group + codec;
+    if 41 < head {
+        return 64;
+    }
+    head + controls_length(x3 << codec, offset == 13)
 }
 
 // An id below the escape and compact settings, or the id 0 alone: how many bits that is. 0 where it is neither.
@@ -215,11 +266,11 @@ pub fn compact_config(x: u64) -> EmdfPayloadConfig
 {
     let x1 = x << flagged_span(x, 11);
     let x2 = x1 << flagged_span(x1, 11);
-    let x3 = x2 << flagged_span(x2, 2);
+    let x3 = x2 << variable_span(x2, 2);
     let codec = x3 >> 63;
     let offset = flagged_value(x, 11);
     let duration = flagged_value(x1, 11);
-    let group = flagged_value(x2, 2);
+    let group = variable_value(x2, 2);
     compact_controls(x3 << (1 + 8 * codec), offset, duration, group, codec)
 }
 

@@ -65,7 +65,7 @@ module _ (s : List ℕ) (c : BitCursor) where
       let i : p + 5 + configLength (after 5 x) ≡ p + headLength x = omega (arith, h .length) in
       let j : p + headLength x + sizeLength y + 8 * sizeValue y ≡ p + n = omega arith in
       bind-go position _ (at-go s e (p + 5))
-      (bind-go payloadConfig _ (config-found (word-after 5 (lit≤ tt) (lit≤ tt) (word-window s p)) (lit≤ tt) (lit≤ tt) e (h .compact) (omega (arith, i)) ∙ ap (λ (q : ℕ). got (compactConfig (after 5 x)) q) i)
+      (bind-go payloadConfig _ (config-found (word-after 5 (lit≤ tt) (lit≤ tt) (word-window s p)) (lit≤ tt) (lit≤ tt) (h .compact) e (omega (arith, i)) ∙ ap (λ (q : ℕ). got (compactConfig (after 5 x)) q) i)
       (bind-go position _ (at-go s e (p + headLength x))
       (bind-go (variableBits 8 2) _ (size-found (word-window s (p + headLength x)) (lit≤ tt) e (lit≤ tt) k (omega arith))
       (bind-go position _ (at-go s e (p + headLength x + sizeLength y))

@@ -7,7 +7,7 @@ use Rattle.emdf_host.proofs.put_next.Statement.{statement}
 use Rattle.emdf_host.proofs.put_next.Tie as tie
 
 -- so that no sum is too large
-bounds : (c : tie.After-size-value) → (c .before .before .before .before .before .head-length .result ≤ 55) × (c .before .before .size-length .result ≤ 18) × (c .size-value .result < 2 ^ 17)
+bounds : (c : tie.After-size-value) → (c .before .before .before .before .before .head-length .result ≤ 57) × (c .before .before .size-length .result ≤ 18) × (c .size-value .result < 2 ^ 17)
 bounds c = (rw (c .before .before .before .before .before .head-length .ensures) (head-most _), rw (c .before .before .size-length .ensures) (size-most _), rw (c .size-value .ensures) (value-most _ (omega arith)))
 
 put-found-requires : tie.Need-put-found-requires

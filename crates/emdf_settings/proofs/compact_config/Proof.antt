@@ -15,8 +15,8 @@ flagged-span-requires-2 c κs = search needs
 shl-x2 : tie.Need-shl-x2
 shl-x2 c = search needs
 
-flagged-span-requires-3 : tie.Need-flagged-span-requires-3
-flagged-span-requires-3 c κs = search needs
+variable-span-requires : tie.Need-variable-span-requires
+variable-span-requires c κs = search needs
 
 shl-x3 : tie.Need-shl-x3
 shl-x3 c = search needs
@@ -27,8 +27,8 @@ flagged-value-requires c κs = search needs
 flagged-value-requires-2 : tie.Need-flagged-value-requires-2
 flagged-value-requires-2 c κs = search needs
 
-flagged-value-requires-3 : tie.Need-flagged-value-requires-3
-flagged-value-requires-3 c κs = search needs
+variable-value-requires : tie.Need-variable-value-requires
+variable-value-requires c κs = search needs
 
 mul-compact-controls : tie.Need-mul-compact-controls
 mul-compact-controls c = search needs
@@ -44,7 +44,7 @@ compact-controls-requires c κs = search needs
 
 returns : tie.Need-returns
 unfolding codecSpan compactConfig
-returns c = simp (c .compact-controls .ensures, c .before .flagged-value3 .ensures, c .before .before .flagged-value2 .ensures, c .before .before .before .flagged-value .ensures, c .before .before .before .before .flagged-span3 .ensures .0, c .before .before .before .before .before .flagged-span2 .ensures .0, c .before .before .before .before .before .before .flagged-span .ensures .0)
+returns c = simp (c .compact-controls .ensures, c .before .variable-value .ensures, c .before .before .flagged-value2 .ensures, c .before .before .before .flagged-value .ensures, c .before .before .before .before .variable-span .ensures .0, c .before .before .before .before .before .flagged-span2 .ensures .0, c .before .before .before .before .before .before .flagged-span .ensures .0)
 
 pub compact-config-spec : {M : Type 1} → statement M
 compact-config-spec =
@@ -54,11 +54,11 @@ compact-config-spec =
     shl-x1
     flagged-span-requires-2
     shl-x2
-    flagged-span-requires-3
+    variable-span-requires
     shl-x3
     flagged-value-requires
     flagged-value-requires-2
-    flagged-value-requires-3
+    variable-value-requires
     mul-compact-controls
     add-compact-controls
     shl-compact-controls
