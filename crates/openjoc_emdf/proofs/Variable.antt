@@ -1,24 +1,31 @@
 -- Laws of one group of a variable field, and of the loop over groups. Assumes nothing.
-use mathlib.Core.Path.{_≡_, refl, sym, _∙_}
-use mathlib.Core.Bool.{Bool, true, false, not}
+use mathlib.Core.Path.{_≡_, refl, sym, ap, _∙_}
+use mathlib.Core.Bool.{Bool, true, false}
 use mathlib.Core.List.{List}
-use Prim.Native.Nat.{ℕ, zero, suc, _+_, _-_, _*_, _/_, _^_, _≤_, _<_}
+use Prim.Native.Nat.{ℕ, zero, suc, _+_, _-_, _*_, _/_, _%_, _^_, _≤_, _<_}
 use native.Mathlib.Omega.{arith}
+use native.Mathlib.Decide.{decLe}
 use native.Mathlib.Nat.{le-div-iff-mul-le, div-lt-iff-lt-mul, suc-mul}
 use lib.Pow.{pow-pos}
-use lib.Dec.{T, ltb, ltb→lt}
+use lib.Dec.{eqb, ltb, lit≤, ltb→lt}
+use borrow.Author.Tests.{lt-ltb, le-ltb}
 use Rattle.openjoc_bitio.specs.Choice.{if_then_else_}
+use Rattle.openjoc_bitio.specs.Bits.{windowAt}
+use Rattle.openjoc_bitio.specs.Cursor.{bitsRemaining}
 use Rattle.openjoc_bitio.specs.declared.BitCursor.{BitCursor}
-use Rattle.emdf_format.specs.Reader.{Read, got, refused, Reader, _>>=_, give, groupsFrom, cursorAt}
+use Rattle.emdf_format.specs.Reader.{Read, got, refused, Reader, andThen, _>>=_, give, ask, choose, bits, groupsFrom, cursorAt}
 use Rattle.emdf_format.specs.declared.EmdfError.{EmdfError}
-use Rattle.emdf_format.proofs.Standing.{T-of, T-not-of, taken, asked, chosen, bind-inv, ask-inv, choose-inv, give-inv, bind-go, bind-no, bind-assoc, bind-same, choose-bind, choose-same, give-bind}
-use Rattle.openjoc_emdf.specs.Answers.{Group, last, more, oneGroup, fieldAnswer, groupAnswer, groupFound, refusedGroup, startAnswer}
+use Rattle.emdf_format.specs.declared.EmdfError.the-variants.{VariableBitsGroupLimit, ValueOverflow}
+use Rattle.emdf_format.proofs.Standing.{bitLimit, remaining-limit, T-of, T-not-of, taken, asked, chosen, bind-inv, ask-inv, choose-inv, give-inv, bind-go, bind-no, bind-assoc, bind-same, choose-bind, choose-same, give-bind}
+use Rattle.emdf_format.proofs.Loops.{bits-there}
+use Rattle.emdf_settings.proofs.Compact.{word-window, word-low, word-bits}
+use Rattle.openjoc_emdf.specs.Answers.{Group, last, more, oneGroup, groupOf, groupRest, fieldAnswer, groupAnswer, groupFound, refusedGroup, startAnswer}
 use Rattle.openjoc_emdf.specs.declared.FieldAnswer.{FieldAnswer}
 use Rattle.openjoc_emdf.specs.declared.FieldAnswer.the-variants as FieldAnswer
 use Rattle.openjoc_emdf.specs.declared.GroupAnswer.{GroupAnswer}
 use Rattle.openjoc_emdf.specs.declared.GroupAnswer.the-variants as GroupAnswer
 use Rattle.openjoc_emdf.specs.declared.StartAnswer.the-variants.{Start, TooLarge}
-use Rattle.openjoc_emdf.proofs.Answers.{Found, Ended, field-ended, ends}
+use Rattle.openjoc_emdf.proofs.Answers.{Found, Ended, field-ended, ends, via, yes as granted, no-more}
 
 -- a read that is refused ends the group
 pub group-ends : {r : GroupAnswer} (m : Reader ℕ) (k : ℕ → Reader Group) (s : List ℕ) (e p : ℕ) {a : FieldAnswer} {why : EmdfError} {c : BitCursor}
@@ -27,6 +34,47 @@ unfolding refusedGroup groupAnswer
 group-ends m k s e p h t z =
     let d = field-ended (m s e p) (sym h ∙ t) in
     ends groupAnswer m k s e p (d .is) (z ∙ rw t (rw (← d .end)))
+
+-- ---- a group whose value is there
+
+rest : (w limit sum next : ℕ) (s : List ℕ) (e q : ℕ) (t u v : Bool)
+    → (if t then GroupAnswer.Last sum (cursorAt e q) else (if u then (if v then GroupAnswer.More next (cursorAt e q) else GroupAnswer.Refused ValueOverflow (cursorAt e q)) else GroupAnswer.Refused (VariableBitsGroupLimit w limit) (cursorAt e q)))
+    ≡ groupAnswer e (choose t (give (last sum)) (ask u (VariableBitsGroupLimit w limit) >>= λ _. ask v ValueOverflow >>= λ _. give (more next)) s e q)
+unfolding groupAnswer groupFound choose ask give _>>=_ andThen
+rest w limit sum next s e q true u v = refl
+rest w limit sum next s e q false true true = refl
+rest w limit sum next s e q false true false = refl
+rest w limit sum next s e q false false v = refl
+
+module _ (w limit n start : ℕ) (s : List ℕ) (e p : ℕ) {value : ℕ} {c₁ : BitCursor} (f : Found (bits w s e p) e value c₁) where
+  pub value-overflows : 2 ^ 64 ≤ start + value → GroupAnswer.Refused ValueOverflow c₁ ≡ groupAnswer e (oneGroup w limit n start s e p)
+  unfolding oneGroup groupAnswer
+  value-overflows h = via groupAnswer _ _ _ _ _ f (no-more groupAnswer _ _ _ _ _ _ (T-not-of (le-ltb _ _ h)) refl)
+
+  -- the more bit is there, too
+  pub rest-found : {flag : ℕ} {c₂ : BitCursor} → start + value < 2 ^ 64 → Found (bits 1 s (c₁ .end) (c₁ .position)) (c₁ .end) flag c₂
+      → groupRest w limit n (start + value) flag (c₂ .end) (c₂ .position) ≡ groupAnswer e (oneGroup w limit n start s e p)
+  unfolding oneGroup groupRest
+  rest-found {flag} {c₂} l g =
+      via groupAnswer _ _ _ _ _ f
+      (granted groupAnswer _ _ _ _ _ _ (T-of (lt-ltb _ _ l))
+      (via groupAnswer _ _ _ _ _ g (rest w limit _ _ s _ _ (eqb flag 0) (ltb 0 n) (ltb ((start + value) * 2 ^ w + 2 ^ w) (2 ^ 64)))))
+
+-- both are in the word at p
+pub group-word : (w limit n start : ℕ) (s : List ℕ) (e p : ℕ) → w ≤ 56 → w < bitsRemaining s (cursorAt e p)
+    → groupOf w limit n start (windowAt s p / 2 ^ (64 - w)) (windowAt s p / 2 ^ (63 - w) % 2) e (p + w) ≡ groupAnswer e (oneGroup w limit n start s e p)
+unfolding groupOf
+group-word w limit n start s e p h l =
+    let x = windowAt s p in
+    let room : p + w + 1 ≤ bitLimit s e = omega (arith, remaining-limit s e p) in
+    let value : Found (bits w s e p) e (x / 2 ^ (64 - w)) (cursorAt e (p + w)) = record { is = word-bits (word-window s p) e w (omega arith) (omega arith) (omega arith); end = refl } in
+    let i : 63 - w ≡ 64 - (w + 1) = omega arith in
+    let bit = ap (λ (k : ℕ). x / 2 ^ k % 2) i ∙ word-low (word-window s p) w 1 (omega arith) in
+    let flag : Found (bits 1 s e (p + w)) e (x / 2 ^ (63 - w) % 2) (cursorAt e (p + w + 1)) = record { is = rw bit (bits-there 1 s e (p + w) (lit≤ tt) (omega arith)); end = refl } in
+    elim (decLe (2 ^ 64) (start + x / 2 ^ (64 - w))) [
+      | yes k ↦ rw (le-ltb _ _ k) (value-overflows w limit n start s e p value k)
+      | no k ↦ let m : start + x / 2 ^ (64 - w) < 2 ^ 64 = omega arith in rw (lt-ltb _ _ m) (rest-found w limit n start s e p value m flag)
+    ]
 
 -- ---- where the next sum starts
 
@@ -133,21 +181,21 @@ module _ (w limit left start : ℕ) (s : List ℕ) (e p : ℕ) (pos : 0 < left) 
 
 -- ---- what the next start's answer says
 
-pub start-found : (v : ℕ) {x : ℕ} → startAnswer v ≡ Start x → (v ≡ x) × T (ltb v (2 ^ 64))
+pub start-found : (v : ℕ) {x : ℕ} → startAnswer v ≡ Start x → (v ≡ x) × (ltb v (2 ^ 64) ≡ true)
 unfolding startAnswer
 start-found v {x} h = go (ltb v (2 ^ 64)) refl h
   where
-    go : (t : Bool) → ltb v (2 ^ 64) ≡ t → (if t then Start v else TooLarge) ≡ Start x → (v ≡ x) × T (ltb v (2 ^ 64))
-    go true a f = (cc, T-of a)
+    go : (t : Bool) → ltb v (2 ^ 64) ≡ t → (if t then Start v else TooLarge) ≡ Start x → (v ≡ x) × (ltb v (2 ^ 64) ≡ true)
+    go true a f = (cc, a)
     go false a f = absurd (let z : _≡_ {A = ℕ} 0 1 = cc in omega arith)
 
-pub start-none : (v : ℕ) → startAnswer v ≡ TooLarge → T (not (ltb v (2 ^ 64)))
+pub start-none : (v : ℕ) → startAnswer v ≡ TooLarge → ltb v (2 ^ 64) ≡ false
 unfolding startAnswer
 start-none v h = go (ltb v (2 ^ 64)) refl h
   where
-    go : (t : Bool) → ltb v (2 ^ 64) ≡ t → (if t then Start v else TooLarge) ≡ TooLarge → T (not (ltb v (2 ^ 64)))
+    go : (t : Bool) → ltb v (2 ^ 64) ≡ t → (if t then Start v else TooLarge) ≡ TooLarge → ltb v (2 ^ 64) ≡ false
     go true a f = absurd (let z : _≡_ {A = ℕ} 0 1 = cc in omega arith)
-    go false a f = T-not-of a
+    go false a f = a
 
 -- another group follows only where one is left
 pub more-left : (w limit n start : ℕ) (s : List ℕ) (e p : ℕ) {v : ℕ} {c : BitCursor} → groupAnswer e (oneGroup w limit n start s e p) ≡ GroupAnswer.More v c → 0 < n

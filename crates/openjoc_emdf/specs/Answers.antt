@@ -249,6 +249,22 @@ unfoldable pub groupAnswer : ℕ → Read Group → GroupAnswer
 groupAnswer e (got g q) = groupFound g e q
 groupAnswer e (refused why q) = GroupAnswer.Refused why (cursorAt e q)
 
+-- the same of a group past its more bit, by the sum that it makes and by that bit
+unfoldable pub groupRest : ℕ → ℕ → ℕ → ℕ → ℕ → ℕ → ℕ → GroupAnswer
+groupRest w limit n sum flag e q =
+    if eqb flag 0
+    then GroupAnswer.Last sum (cursorAt e q)
+    else (if ltb 0 n
+    then (if ltb (sum * 2 ^ w + 2 ^ w) (2 ^ 64) then GroupAnswer.More (sum * 2 ^ w + 2 ^ w) (cursorAt e q) else GroupAnswer.Refused ValueOverflow (cursorAt e q))
+    else GroupAnswer.Refused (VariableBitsGroupLimit w limit) (cursorAt e q))
+
+-- by its value, which ends at q, and by its more bit
+unfoldable pub groupOf : ℕ → ℕ → ℕ → ℕ → ℕ → ℕ → ℕ → ℕ → GroupAnswer
+groupOf w limit n start value flag e q =
+    if ltb (start + value) (2 ^ 64)
+    then groupRest w limit n (start + value) flag e (q + 1)
+    else GroupAnswer.Refused ValueOverflow (cursorAt e q)
+
 -- only a refusal is handed to it
 unfoldable pub refusedGroup : FieldAnswer → GroupAnswer
 refusedGroup (FieldAnswer.Value v c) = GroupAnswer.Last v c

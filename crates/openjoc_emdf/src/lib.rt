@@ -12,7 +12,7 @@ ghost use lib.ListN.{length};
 ghost use Rattle.openjoc_bitio.specs.Bits.{bitsValue};
 ghost use Rattle.openjoc_bitio.specs.Cursor.{bitsRemaining};
 ghost use Rattle.openjoc_emdf.specs.Compact.{compactLength, compactStep, recordAt};
-ghost use Rattle.openjoc_emdf.specs.Answers.{fieldAnswer, groupAnswer, startAnswer, refusedGroup, oneGroup, optionalAnswer, configAnswer, cursorAnswer, payloadAnswer, turnAnswer, nextPayload, skipOf, countFrom, protectionBytes, bytesAnswer, valueThere, paddingAnswer, IsEnd, containerAfter, containerAnswer, parseAnswer, parsedOf, classAnswer, classifiedOf, reachedBy, firstPayload, openAnswer, parseError, countError, bytesError, paddingError, fieldError, optionalError, configError, cursorError};
+ghost use Rattle.openjoc_emdf.specs.Answers.{fieldAnswer, groupAnswer, startAnswer, refusedGroup, oneGroup, groupOf, groupRest, optionalAnswer, configAnswer, cursorAnswer, payloadAnswer, turnAnswer, nextPayload, skipOf, countFrom, protectionBytes, bytesAnswer, valueThere, paddingAnswer, IsEnd, containerAfter, containerAnswer, parseAnswer, parsedOf, classAnswer, classifiedOf, reachedBy, firstPayload, openAnswer, parseError, countError, bytesError, paddingError, fieldError, optionalError, configError, cursorError};
 use emdf_format::EmdfError;
 use emdf_format::EmdfPayloadBitTrace;
 use emdf_format::EmdfPayloadConfig;
@@ -207,8 +207,41 @@ fn groups(s: &[u8], c: BitCursor, width: u8, limit: u8) -> FieldAnswer
     }
 }
 
-// One group, where left are still allowed.
+// One group, where left are still allowed: from a word, where its bits are in one and are there.
 fn group(s: &[u8], c: BitCursor, width: u8, limit: u8, left: u8, start: u64) -> GroupAnswer
+    requires { ⌜ (0 < width) × (width < 64) × (0 < left) ⌝ }
+    ensures { λ r. ⌜ r ≡ groupAnswer (c .end) (oneGroup width limit (left - 1) start (now (s .entry)) (c .end) (c .position)) ⌝ }
+{
+    let position = c.position;
+    let end = c.end;
+    let w = width as usize;
+    if w <= 56 {
+        if w < (BitCursor { position, end }).bits_remaining(s) {
+            let x = openjoc_bitio::window_at(s, position);
+            return group_of(
+                x >> (64 - w),
+                (x >> (63 - w)) % 2,
+                position + w,
+                end,
+                width,
+                limit,
+                left,
+                start,
+            );
+        }
+    }
+    group_by_fields(s, BitCursor { position, end }, width, limit, left, start)
+}
+
+// The same by two reads.
+fn group_by_fields(
+    s: &[u8],
+    c: BitCursor,
+    width: u8,
+    limit: u8,
+    left: u8,
+    start: u64,
+) -> GroupAnswer
     requires { ⌜ (0 < width) × (width < 64) × (0 < left) ⌝ }
     ensures { λ r. ⌜ r ≡ groupAnswer (c .end) (oneGroup width limit (left - 1) start (now (s .entry)) (c .end) (c .position)) ⌝ }
 {
@@ -223,17 +256,54 @@ fn group(s: &[u8], c: BitCursor, width: u8, limit: u8, left: u8, start: u64) -> 
     let FieldAnswer::Value(more, c2) = m else {
         return refused_group(m);
     };
+    group_rest(start + value, more, c2.position, c2.end, width, limit, left)
+}
+
+// A group of this value, which ends at a position, and of this more bit after it.
+fn group_of(
+    value: u64,
+    more: u64,
+    position: usize,
+    end: usize,
+    width: u8,
+    limit: u8,
+    left: u8,
+    start: u64,
+) -> GroupAnswer
+    requires { ⌜ (0 < width) × (width < 64) × (0 < left) × (position < end) ⌝ }
+    ensures { λ r. ⌜ r ≡ groupOf width limit (left - 1) start value more end position ⌝ }
+{
+    if 0xffff_ffff_ffff_ffff - start < value {
+        return GroupAnswer::Refused(EmdfError::ValueOverflow, BitCursor { position, end });
+    }
+    group_rest(start + value, more, position + 1, end, width, limit, left)
+}
+
+// A group that makes this sum, past its more bit.
+fn group_rest(
+    sum: u64,
+    more: u64,
+    position: usize,
+    end: usize,
+    width: u8,
+    limit: u8,
+    left: u8,
+) -> GroupAnswer
+    requires { ⌜ (0 < width) × (width < 64) × (0 < left) ⌝ }
+    ensures { λ r. ⌜ r ≡ groupRest width limit (left - 1) sum more end position ⌝ }
+{
+    let next = BitCursor { position, end };
     if more == 0 {
-        return GroupAnswer::Last(start + value, c2);
+        return GroupAnswer::Last(sum, next);
     }
     if left == 1 {
-        return GroupAnswer::Refused(EmdfError::VariableBitsGroupLimit { width, limit }, c2);
+        return GroupAnswer::Refused(EmdfError::VariableBitsGroupLimit { width, limit }, next);
     }
-    let n = next_start(start + value, width);
-    let StartAnswer::Start(next) = n else {
-        return GroupAnswer::Refused(EmdfError::ValueOverflow, c2);
+    let n = next_start(sum, width);
+    let StartAnswer::Start(start) = n else {
+        return GroupAnswer::Refused(EmdfError::ValueOverflow, next);
     };
-    GroupAnswer::More(next, c2)
+    GroupAnswer::More(start, next)
 }
 
 // The refusal of a read, as a group's.
