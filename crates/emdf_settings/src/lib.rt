@@ -163,7 +163,7 @@ fn controls_length(x: u64, offset: bool) -> u64
 }
 
 // How many bits compact settings take; 64 where they are not compact.
-fn config_length(x: u64) -> u64
+pub fn config_length(x: u64) -> u64
     ensures { λ r. ⌜ (r ≡ configLength x) × (r ≤ 64) ⌝ }
 {
     // The shortest settings, nothing but discard, which many payloads have.

@@ -2,7 +2,7 @@
 use mathlib.Core.Path.{_≡_, refl, ap, _∙_}
 use mathlib.Core.Bool.{Bool, true, false}
 use mathlib.Core.List.{List}
-use Prim.Native.Nat.{ℕ, _+_, _-_, _*_, _^_, _≤_, _<_}
+use Prim.Native.Nat.{ℕ, _+_, _*_, _^_, _≤_, _<_}
 use native.Mathlib.Omega.{arith}
 use native.Mathlib.Decide.{decLe}
 use lib.Dec.{eqb, lit≤, eqb→eq}
@@ -12,14 +12,14 @@ use Rattle.openjoc_bitio.proofs.Bits.{window-range}
 use Rattle.openjoc_bitio.specs.Cursor.{bitsRemaining}
 use Rattle.openjoc_bitio.specs.declared.BitCursor.{BitCursor}
 use Rattle.emdf_format.specs.Reader.{got, cursorAt, position, variableBits, extendedValue, octets}
-use Rattle.emdf_format.specs.Reading.{payloadConfig, payloadAfter}
+use Rattle.emdf_format.specs.Reading.{payloadConfig, payloadAfter, traceOf}
 use Rattle.emdf_format.specs.Calls.{octetsAt}
 use Rattle.emdf_format.proofs.Standing.{bitLimit, remaining-limit, bind-go, choose-this, choose-that, give-go, T-of, T-not-of, neqb→ne}
 use Rattle.emdf_format.proofs.Payloads.{at-go}
 use Rattle.emdf_format.proofs.Loops.{octets-there}
-use Rattle.emdf_settings.specs.Words.{top, after, compactConfig, configLength, headLength, sizeLength, sizeValue}
-use Rattle.emdf_settings.proofs.Compact.{word-window, word-after, config-found, id-found, size-found, Head, head-end, head-of, head-most, size-most, value-most}
-use Rattle.openjoc_emdf.specs.Answers.{ended, found, nextPayload, turnFound, turnAnswer}
+use Rattle.emdf_settings.specs.Words.{top, compactSettings, compactConfig, configLength, headLength, sizeLength, sizeValue}
+use Rattle.emdf_settings.proofs.Compact.{Word, word-window, word-after, config-found, id-found, size-found, head-end, head-of, head-most, size-most, value-most}
+use Rattle.openjoc_emdf.specs.Answers.{nextPayload, turnFound, turnAnswer}
 use Rattle.openjoc_emdf.specs.Compact.{compactLength, compactRecord, compactStep}
 use Rattle.openjoc_emdf.specs.declared.PayloadStep.the-variants as PayloadStep
 use Rattle.openjoc_emdf.proofs.Walk.{stepAt}
@@ -29,6 +29,32 @@ more k h = let f = neqb→ne k 0 (T-not-of h) in elim (decLe 1 k) [
   | yes l ↦ l
   | no l ↦ absurd (f (omega arith))
 ]
+
+-- settings other than 64 bits long are compact
+pub compact-unless : (x : ℕ) → (configLength x ≡ 64 → ⊥) → compactSettings x ≡ true
+unfolding configLength
+compact-unless x h = go (compactSettings x) refl
+  where
+    go : (t : Bool) → compactSettings x ≡ t → compactSettings x ≡ true
+    go true i = i
+    go false i = absurd (h (rw i))
+
+-- what follows an id at q: compact settings in a word, a size at z, and a body from b to t
+pub after-found : {s : List ℕ} {q m x : ℕ} → Word s q m x → m ≤ 64 → 52 ≤ m → (e p₀ id : ℕ) {z b t : ℕ} → compactSettings x ≡ true → 0 < sizeLength (windowAt s z)
+    → q + configLength x ≡ z → z + sizeLength (windowAt s z) ≡ b → b + sizeValue (windowAt s z) * 8 ≡ t → t ≤ bitLimit s e
+    → payloadAfter p₀ id s e q ≡ got (record { record-of = record { id = id; config = compactConfig x; trace = traceOf p₀ q z b t }; body = octetsAt s b (sizeValue (windowAt s z)) }) t
+unfolding payloadAfter
+after-found {s} {q} {m} {x} w h₆₄ h₅₂ e p₀ id {z} {b} {t} settings some i j k l =
+    let n = sizeValue (windowAt s z) in
+    let r : b + 8 * n ≡ t = omega arith in
+    bind-go position _ (at-go s e q)
+    (bind-go payloadConfig _ (config-found w h₆₄ h₅₂ settings e (omega arith) ∙ ap (λ (o : ℕ). got (compactConfig x) o) i)
+    (bind-go position _ (at-go s e z)
+    (bind-go (variableBits 8 2) _ (size-found (word-window s z) (lit≤ tt) e (lit≤ tt) some (omega arith) ∙ ap (λ (o : ℕ). got n o) j)
+    (bind-go position _ (at-go s e b)
+    (bind-go (octets n) _ (octets-there n s e b (omega arith) ∙ ap (λ (o : ℕ). got (octetsAt s b n) o) r)
+    (bind-go position _ (at-go s e t)
+    (give-go s e refl refl)))))))
 
 module _ (s : List ℕ) (c : BitCursor) where
   abbrev e : ℕ
@@ -58,31 +84,17 @@ module _ (s : List ℕ) (c : BitCursor) where
       (bind-go (extendedValue 5) _ (id-found (word-window s p) (lit≤ tt) e (lit≤ tt) (rw (eqb→eq (top 5 x) 0 (T-of z))) (there 5 (omega arith) l))
       (choose-this _ _ _ (T-of z) (give-go s e refl refl))))
 
-  after-found : Head x → 0 < sizeLength y → p + n ≤ bitLimit s e
-      → payloadAfter p (top 5 x) s e (p + 5) ≡ got (record { record-of = compactRecord x p (headLength x) (sizeLength y) n; body = octetsAt s (p + headLength x + sizeLength y) (sizeValue y) }) (p + n)
-  unfolding payloadAfter
-  after-found h k l =
-      let i : p + 5 + configLength (after 5 x) ≡ p + headLength x = omega (arith, h .length) in
-      let j : p + headLength x + sizeLength y + 8 * sizeValue y ≡ p + n = omega arith in
-      bind-go position _ (at-go s e (p + 5))
-      (bind-go payloadConfig _ (config-found (word-after 5 (lit≤ tt) (lit≤ tt) (word-window s p)) (lit≤ tt) (lit≤ tt) (h .compact) e (omega (arith, i)) ∙ ap (λ (q : ℕ). got (compactConfig (after 5 x)) q) i)
-      (bind-go position _ (at-go s e (p + headLength x))
-      (bind-go (variableBits 8 2) _ (size-found (word-window s (p + headLength x)) (lit≤ tt) e (lit≤ tt) k (omega arith))
-      (bind-go position _ (at-go s e (p + headLength x + sizeLength y))
-      (bind-go (octets (sizeValue y)) _ (octets-there (sizeValue y) s e (p + headLength x + sizeLength y) (omega arith) ∙ ap (λ (q : ℕ). got (octetsAt s (p + headLength x + sizeLength y) (sizeValue y)) q) j)
-      (bind-go position _ (at-go s e (p + n))
-      (give-go s e refl refl)))))))
-
   compact-found : eqb (top 5 x) 0 ≡ false → 0 < headLength x → 0 < sizeLength y → n ≤ bitsRemaining s c → stepAt s c ≡ PayloadStep.Payload (compactRecord x p (headLength x) (sizeLength y) n) (cursorAt e (p + n))
   unfolding nextPayload turnAnswer turnFound
   compact-found z h k l =
       let d = head-of x z h in
       let m : p + n ≤ bitLimit s e = there n (omega (arith, h)) l in
+      let w = word-after 5 (lit≤ tt) (lit≤ tt) (word-window s p) in
       ap (turnAnswer e)
       (bind-go position _ (at-go s e p)
       (bind-go (extendedValue 5) _ (id-found (word-window s p) (lit≤ tt) e (lit≤ tt) (d .low) (omega (arith, m, d .length)))
       (choose-that _ _ _ (T-not-of z)
-      (bind-go (payloadAfter p (top 5 x)) _ (after-found d k m) (give-go s e refl refl)))))
+      (bind-go (payloadAfter p (top 5 x)) _ (after-found w (lit≤ tt) (lit≤ tt) e p (top 5 x) (d .compact) k (omega (arith, d .length)) refl (omega arith) m) (give-go s e refl refl)))))
 
   -- more bits than an end mark takes
   pub compact-step : 5 < headLength x → 0 < sizeLength y → n ≤ bitsRemaining s c → stepAt s c ≡ PayloadStep.Payload (compactRecord x p (headLength x) (sizeLength y) n) (cursorAt e (p + n))

@@ -37,6 +37,7 @@ group-ends m k s e p h t z =
 
 -- ---- a group whose value is there
 
+-- past the more bit, by what the three questions answer
 rest : (w limit sum next : ℕ) (s : List ℕ) (e q : ℕ) (t u v : Bool)
     → (if t then GroupAnswer.Last sum (cursorAt e q) else (if u then (if v then GroupAnswer.More next (cursorAt e q) else GroupAnswer.Refused ValueOverflow (cursorAt e q)) else GroupAnswer.Refused (VariableBitsGroupLimit w limit) (cursorAt e q)))
     ≡ groupAnswer e (choose t (give (last sum)) (ask u (VariableBitsGroupLimit w limit) >>= λ _. ask v ValueOverflow >>= λ _. give (more next)) s e q)

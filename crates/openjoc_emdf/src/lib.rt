@@ -9,7 +9,8 @@ ghost use Rattle.emdf_format.specs.Reading.{sampleOffset, codecData, configCont
 ghost use Rattle.emdf_format.specs.Calls.{classify, octetsAt};
 ghost use mathlib.Core.List.{List};
 ghost use lib.ListN.{length};
-ghost use Rattle.openjoc_bitio.specs.Bits.{bitsValue};
+ghost use Rattle.openjoc_bitio.specs.Bits.{bitsValue, windowAt};
+ghost use Rattle.emdf_settings.specs.Words.{compactSettings, configLength};
 ghost use Rattle.openjoc_bitio.specs.Cursor.{bitsRemaining};
 ghost use Rattle.openjoc_emdf.specs.Compact.{compactLength, compactStep, recordAt};
 ghost use Rattle.openjoc_emdf.specs.Answers.{fieldAnswer, groupAnswer, startAnswer, refusedGroup, oneGroup, groupOf, groupRest, optionalAnswer, configAnswer, cursorAnswer, payloadAnswer, turnAnswer, nextPayload, skipOf, countFrom, protectionBytes, bytesAnswer, valueThere, paddingAnswer, IsEnd, containerAfter, containerAnswer, parseAnswer, parsedOf, classAnswer, classifiedOf, reachedBy, firstPayload, openAnswer, parseError, countError, bytesError, paddingError, fieldError, optionalError, configError, cursorError};
@@ -560,6 +561,55 @@ fn skip_octets(s: &[u8], c: BitCursor, n: u64) -> CursorAnswer
 
 // A payload after its id, which starts at bit start: its settings, its size, and past its body.
 fn payload_after(s: &[u8], c: BitCursor, start: usize, id: u64) -> PayloadStep
+    ensures { λ r. ⌜ r ≡ payloadAnswer (c .end) (payloadAfter start id (now (s .entry)) (c .end) (c .position)) ⌝ }
+{
+    let position = c.position;
+    let end = c.end;
+    // So that no sum of positions is too large.
+    if position < 0x2000_0000_0000_0000 {
+        let x = openjoc_bitio::window_at(s, position);
+        let config = emdf_settings::config_length(x) as usize;
+        if config != 64 {
+            return after_compact(s, x, config, position, end, start, id);
+        }
+    }
+    after_by_fields(s, BitCursor { position, end }, start, id)
+}
+
+// The same where x is the word at the position, with compact settings of so many bits.
+fn after_compact(
+    s: &[u8],
+    x: u64,
+    config: usize,
+    position: usize,
+    end: usize,
+    start: usize,
+    id: u64,
+) -> PayloadStep
+    requires { ⌜ (position < 2 ^ 61) × (x ≡ windowAt (now s) position) × (compactSettings x ≡ true) × (config ≡ configLength x) ⌝ }
+    ensures { λ r. ⌜ r ≡ payloadAnswer end (payloadAfter start id (now (s .entry)) end position) ⌝ }
+{
+    let size = position + config;
+    let y = openjoc_bitio::window_at(s, size);
+    let length = emdf_settings::size_length(y) as usize;
+    if length != 0 {
+        let body = size + length;
+        let past = body + (emdf_settings::size_value(y) as usize) * 8;
+        if past - position <= (BitCursor { position, end }).bits_remaining(s) {
+            let config = emdf_settings::compact_config(x);
+            let trace = bit_trace(start, position, size, body, past);
+            let next = BitCursor {
+                position: past,
+                end,
+            };
+            return PayloadStep::Payload(PayloadRecord { id, config, trace }, next);
+        }
+    }
+    after_by_fields(s, BitCursor { position, end }, start, id)
+}
+
+// The same field by field.
+fn after_by_fields(s: &[u8], c: BitCursor, start: usize, id: u64) -> PayloadStep
     ensures { λ r. ⌜ r ≡ payloadAnswer (c .end) (payloadAfter start id (now (s .entry)) (c .end) (c .position)) ⌝ }
 {
     let a1 = payload_config(s, c);
