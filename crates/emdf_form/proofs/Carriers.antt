@@ -8,7 +8,7 @@ use Rattle.openjoc_bitio.specs.declared.BitError.{BitError}
 use Rattle.openjoc_bitio.specs.declared.BitError.the-variants as BitError
 use Rattle.openjoc_bitio.specs.Cursor as bit
 use Rattle.emdf_format.specs.Reading.{Container}
-use Rattle.emdf_format.specs.Calls.{number, figures, Class, nonEmdf, parsed, trailingData, malformed}
+use Rattle.emdf_format.specs.Calls.{figures, Class, nonEmdf, parsed, trailingData, malformed}
 use Rattle.emdf_format.specs.declared.EmdfError.{EmdfError}
 use Rattle.emdf_format.specs.declared.EmdfError.the-variants.{TruncatedContainer, InvalidSyncword, Bit, InvalidVariableBits, VariableBitsGroupLimit, ValueOverflow, UnsupportedVersion, NonzeroReservedData, ReservedPrimaryProtectionLength, ExcessPadding, NonzeroPadding}
 use Rattle.emdf_format.specs.declared.Optional.{Optional}

@@ -1,7 +1,7 @@
 // The answers to a C host as numbers, and settings from its bytes. docs/HOST.md has each byte form.
 ghost use mathlib.Core.Path.{_≡_};
 ghost use mathlib.Core.List.{[], _∷_};
-ghost use Prim.Native.Nat.{ℕ, _+_, _*_, _<_, _≤_};
+ghost use Prim.Native.Nat.{_+_, _*_, _<_, _≤_};
 ghost use lib.ListN.{length, getD};
 ghost use Rattle.openjoc_bitio.specs.Cursor.{number as bitNumber, figures as bitFigures};
 ghost use Rattle.emdf_format.specs.Calls.{number, figures, bodyNumber, bodyFigures, editNumber, editFigures, profileNumber, profileFigures};

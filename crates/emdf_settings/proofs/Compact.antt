@@ -1,20 +1,19 @@
 -- Compact fields, read from a word, are what the readers of emdf_format find. Assumes nothing.
 use mathlib.Core.Path.{_≡_, refl, sym, ap, _∙_}
-use mathlib.Core.Bool.{Bool, true, false, not, _||_}
+use mathlib.Core.Bool.{Bool, true, false, _||_}
 use mathlib.Core.List.{List}
 use Prim.Native.Nat.{ℕ, suc, zero, _+_, _-_, _*_, _/_, _%_, _^_, _≤_, _<_}
 use native.Mathlib.Omega.{arith}
-use native.Mathlib.Nat.{add-assoc, add-zero}
 use native.Mathlib.Decide.{decLe}
-use lib.Dec.{T, leb→le, eqb, ltb, lit≤, lit<, eqb→eq, eqb-refl}
+use lib.Dec.{leb→le, eqb, lit≤, lit<, eqb→eq}
 use lib.Pow.{shl-shr, shr-shr, field, low, pow-mono}
-use borrow.Author.Tests.{eq-eqb, ne-eqb, lt-ltb, le-leb}
+use borrow.Author.Tests.{ne-eqb, lt-ltb, le-leb}
 use Rattle.openjoc_bitio.specs.Choice.{if_then_else_}
 use Rattle.openjoc_bitio.specs.Bits.{bitsValue, windowAt}
 use Rattle.openjoc_bitio.proofs.Bits.{value-split, value-range, window-top}
 use Rattle.emdf_format.specs.Syntax.{escape}
 use Rattle.emdf_format.specs.Contents.{_&_, isPresent, isOne, hasAligned, hasPriority}
-use Rattle.emdf_format.specs.Reader.{Read, got, Reader, _>>=_, give, ask, choose, bits, groupsFrom, variableBits, extendedValue, present, flagged}
+use Rattle.emdf_format.specs.Reader.{got, Reader, _>>=_, give, ask, choose, bits, groupsFrom, variableBits, extendedValue, present, flagged}
 use Rattle.emdf_format.specs.Reading.{reserved, sampleOffset, codecData, configControls, payloadConfig}
 use Rattle.emdf_format.specs.declared.Optional.{Optional}
 use Rattle.emdf_format.specs.declared.Optional.the-variants.{Absent, Present}

@@ -1,7 +1,7 @@
 -- Fields that lie in one word of 64 bits, from its top on. Settings are compact where the duration is one group and the
 -- group id one or two, what is reserved is zero, and at most 41 bits stand before discard: then a word holds them with the id before
 -- them. Assumes nothing.
-use mathlib.Core.Bool.{Bool, true, false, not, _||_}
+use mathlib.Core.Bool.{Bool, _||_}
 use Prim.Native.Nat.{ℕ, _+_, _-_, _*_, _/_, _%_, _^_}
 use lib.Dec.{eqb, leb}
 use Rattle.openjoc_bitio.specs.Choice.{if_then_else_}

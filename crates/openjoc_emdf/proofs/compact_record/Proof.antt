@@ -1,7 +1,5 @@
 use borrow.Author.Needs.{needs}
-use mathlib.Core.Path.{_≡_, sym, ap, _∙_}
 use native.Mathlib.Omega.{arith}
-use denote.Ref.{now}
 use Rattle.emdf_settings.proofs.Compact.{head-most, size-most}
 use Rattle.openjoc_emdf.proofs.compact_record.Statement.{statement}
 use Rattle.openjoc_emdf.proofs.compact_record.Tie as tie
