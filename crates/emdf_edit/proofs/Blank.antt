@@ -19,7 +19,7 @@ use Rattle.emdf_format.specs.Edits.{Bytes, carrierLength, inRoom, stepAnswer, w
 use Rattle.emdf_format.proofs.Standing.{length-then, both}
 use Rattle.emdf_format.proofs.Bytes.{declared-is}
 use Rattle.emdf_format.proofs.Splice.{⨟-assoc, written-bytes}
-use Rattle.emdf_contents.specs.Parts.{writableProtection}
+use Rattle.emdf_measure.specs.Parts.{writableProtection}
 use Rattle.emdf_edit.specs.Fields.{blankContents, syncBits, headerBits}
 use Rattle.emdf_edit.proofs.Putting.{length-header}
 

@@ -197,12 +197,12 @@ fn put_protection(out: &mut [u8], at: usize, primary: &[u8], secondary: &[u8]) -
     requires { ⌜ Room (now out) at (protectionBits (now primary) (now secondary)) ⌝ }
     ensures { λ r. ⌜ Put (now (out .entry)) at (protectionBits (now (primary .entry)) (now (secondary .entry))) (now (out .exit)) r ⌝ }
 {
-    let first = put_field(out, at, 2, emdf_contents::protection_code(primary.len()));
+    let first = put_field(out, at, 2, emdf_measure::protection_code(primary.len()));
     let codes = put_field(
         out,
         first,
         2,
-        emdf_contents::protection_code(secondary.len()),
+        emdf_measure::protection_code(secondary.len()),
     );
     let next = put_octets(out, codes, primary);
     put_octets(out, next, secondary)
@@ -241,7 +241,7 @@ fn blank_declared(key: u64, primary: &[u8], secondary: &[u8]) -> usize
     requires { ⌜ (length (now primary) ≤ 16) × (length (now secondary) ≤ 16) ⌝ }
     ensures { λ r. ⌜ (r ≡ declared (blankContents key (now (primary .entry)) (now (secondary .entry)))) × (r < 65536) ⌝ }
 {
-    let bits = emdf_contents::key_bits(key) + 5 + 4 + 8 * (primary.len() + secondary.len());
+    let bits = emdf_measure::key_bits(key) + 5 + 4 + 8 * (primary.len() + secondary.len());
     (bits + 7) / 8
 }
 
@@ -265,7 +265,7 @@ pub fn blank_carrier(
 ) -> EditAnswer
     ensures { λ r. ⌜ (r ≡ blank key (now (primary .entry)) (now (secondary .entry)) (now (destination .entry)) .answer) × (now (destination .exit) ≡ blank key (now (primary .entry)) (now (secondary .entry)) (now (destination .entry)) .destination) ⌝ }
 {
-    if !emdf_contents::writable_protection(primary, secondary) {
+    if !emdf_measure::writable_protection(primary, secondary) {
         return EditAnswer::Refused(EditError::NotWritable);
     }
     let size = blank_declared(key, primary, secondary);

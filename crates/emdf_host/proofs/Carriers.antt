@@ -31,12 +31,12 @@ use Rattle.openjoc_emdf.specs.declared.PayloadStep.the-variants as PayloadStep
 use Rattle.openjoc_emdf.proofs.Walk.{Listed, listed-step, stepAt, Opened, opened, unopened}
 use Rattle.openjoc_emdf.specs.Compact.{compactRecord}
 use Rattle.openjoc_emdf.proofs.Compact.{compact-step}
-use Rattle.emdf_form.specs.Form.{bigEndian, words}
-use Rattle.emdf_form.specs.Bits.{figured}
-use Rattle.emdf_form.specs.Carriers.{padded, parsedListed, readInto, readNumber, readWords, optionalWords, configWords, traceWords, recordWords, rowsBytes, rowsAfter, moveNumber, moveWords}
-use Rattle.emdf_form.specs.declared.Figures.{Figures}
-use Rattle.emdf_form.proofs.Form.{length-words, elements-all}
-use Rattle.emdf_form.proofs.Carriers.{two-figures, figured-words, parsed-listed}
+use Rattle.emdf_answers.specs.Form.{bigEndian, words}
+use Rattle.emdf_answers.specs.Bits.{figured}
+use Rattle.emdf_answers.specs.Carriers.{padded, parsedListed, readInto, readNumber, readWords, optionalWords, configWords, traceWords, recordWords, rowsBytes, rowsAfter, moveNumber, moveWords}
+use Rattle.emdf_answers.specs.declared.Figures.{Figures}
+use Rattle.emdf_answers.proofs.Form.{length-words, elements-all}
+use Rattle.emdf_answers.proofs.Carriers.{two-figures, figured-words, parsed-listed}
 use Rattle.emdf_host.proofs.Stored.{sets-append, words-stored, words-then}
 
 -- ---- a row

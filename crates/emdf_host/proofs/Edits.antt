@@ -5,9 +5,9 @@ use lib.ListN.{length}
 use Rattle.emdf_format.specs.Calls.{editFigures}
 use Rattle.emdf_format.specs.declared.EditAnswer.{EditAnswer}
 use Rattle.emdf_format.specs.declared.EditAnswer.the-variants.{Written, Refused}
-use Rattle.emdf_form.specs.Bits.{figured}
-use Rattle.emdf_form.specs.Edits.{editedNumber, editedWords}
-use Rattle.emdf_form.specs.declared.Figures.{Figures}
+use Rattle.emdf_answers.specs.Bits.{figured}
+use Rattle.emdf_answers.specs.Edits.{editedNumber, editedWords}
+use Rattle.emdf_answers.specs.declared.Figures.{Figures}
 use Rattle.emdf_host.proofs.Carriers.{length-padded, two-words}
 
 length-edited : (a : EditAnswer) → length (editedWords a) ≡ 2

@@ -10,8 +10,8 @@ use lib.ListN.{length, set, drop, getD}
 use lib.Seq.{sets, sets-eq, drop-cons}
 use Rattle.openjoc_bitio.specs.Bits.{swapOctets}
 use Rattle.openjoc_bitio.proofs.Bits.{swap-octet}
-use Rattle.emdf_form.specs.Form.{bigEndian, words}
-use Rattle.emdf_form.proofs.Form.{length-big-endian, length-words}
+use Rattle.emdf_answers.specs.Form.{bigEndian, words}
+use Rattle.emdf_answers.proofs.Form.{length-big-endian, length-words}
 
 -- the octets of a word, each by its own store, from the word that has them in the machine's order
 module _ (l : List ℕ) (at v : ℕ) (h : v < 2 ^ 64) where

@@ -13,15 +13,15 @@ ghost use Rattle.emdf_format.specs.Edits.{bodyEdit, settingsEdit, dropEdit, ins
 ghost use Rattle.openjoc_emdf.proofs.Walk.{Listed, stepAt};
 ghost use Rattle.openjoc_emdf.specs.Compact.{compactRecord};
 ghost use Rattle.openjoc_emdf.specs.declared.PayloadStep.the-variants.{Payload};
-ghost use Rattle.emdf_form.specs.Form.{bigEndian, words};
-ghost use Rattle.emdf_form.specs.Bits.{replyBytes, newReply, remainingReply, readBitsReply, readBitReply, takeBitsReply, byteAlignReply};
-ghost use Rattle.emdf_form.specs.Fields.{variableBitsReply};
-ghost use Rattle.emdf_form.specs.Carriers.{padded, readInto, readNumber, readWords, recordWords, rowsBytes, rowsAfter, classNumber, classWords, moveNumber, moveWords};
-ghost use Rattle.emdf_form.specs.Verdict.{profileOf, verdictNumber, verdictWords};
-ghost use Rattle.emdf_form.specs.Settings.{settingsOf};
-ghost use Rattle.emdf_form.specs.Edits.{editedNumber, editedWords};
-use emdf_form::BitReply;
-use emdf_form::Figures;
+ghost use Rattle.emdf_answers.specs.Form.{bigEndian, words};
+ghost use Rattle.emdf_answers.specs.Bits.{replyBytes, newReply, remainingReply, readBitsReply, readBitReply, takeBitsReply, byteAlignReply};
+ghost use Rattle.emdf_answers.specs.Fields.{variableBitsReply};
+ghost use Rattle.emdf_answers.specs.Carriers.{padded, readInto, readNumber, readWords, recordWords, rowsBytes, rowsAfter, classNumber, classWords, moveNumber, moveWords};
+ghost use Rattle.emdf_answers.specs.Verdict.{profileOf, verdictNumber, verdictWords};
+ghost use Rattle.emdf_answers.specs.Settings.{settingsOf};
+ghost use Rattle.emdf_answers.specs.Edits.{editedNumber, editedWords};
+use emdf_answers::BitReply;
+use emdf_answers::Figures;
 use emdf_format::BodyAnswer;
 use emdf_format::EditAnswer;
 use emdf_format::PayloadRecord;
@@ -36,7 +36,7 @@ const ROW_BYTES: usize = 216;
 pub extern "C" fn emdf_bit_cursor(bytes: &[u8], answer: &mut [u8; 48]) -> u32
     ensures { λ r. ⌜ (r ≡ newReply (now (bytes .entry)) .number) × (now (answer .exit) ≡ replyBytes (newReply (now (bytes .entry)))) ⌝ }
 {
-    put_reply(answer, emdf_form::accepted_at(BitCursor::new(bytes), 0))
+    put_reply(answer, emdf_answers::accepted_at(BitCursor::new(bytes), 0))
 }
 
 #[no_mangle]
@@ -50,7 +50,7 @@ pub extern "C" fn emdf_bits_remaining(
 {
     let cursor = BitCursor { position, end };
     let remaining = cursor.bits_remaining(bytes);
-    put_reply(answer, emdf_form::accepted_at(cursor, remaining as u64))
+    put_reply(answer, emdf_answers::accepted_at(cursor, remaining as u64))
 }
 
 #[no_mangle]
@@ -66,7 +66,7 @@ pub extern "C" fn emdf_read_bits(
     let cursor = BitCursor { position, end };
     put_reply(
         answer,
-        emdf_form::bits_reply(cursor, cursor.read_bits(bytes, width)),
+        emdf_answers::bits_reply(cursor, cursor.read_bits(bytes, width)),
     )
 }
 
@@ -80,7 +80,7 @@ pub extern "C" fn emdf_read_bit(
     ensures { λ r. ⌜ (r ≡ readBitReply (now (bytes .entry)) position end .number) × (now (answer .exit) ≡ replyBytes (readBitReply (now (bytes .entry)) position end)) ⌝ }
 {
     let cursor = BitCursor { position, end };
-    put_reply(answer, emdf_form::bit_reply(cursor, cursor.read_bit(bytes)))
+    put_reply(answer, emdf_answers::bit_reply(cursor, cursor.read_bit(bytes)))
 }
 
 #[no_mangle]
@@ -96,7 +96,7 @@ pub extern "C" fn emdf_take_bits(
     let cursor = BitCursor { position, end };
     put_reply(
         answer,
-        emdf_form::window_reply(cursor, cursor.take_bits(bytes, count)),
+        emdf_answers::window_reply(cursor, cursor.take_bits(bytes, count)),
     )
 }
 
@@ -112,7 +112,7 @@ pub extern "C" fn emdf_byte_align(
     let cursor = BitCursor { position, end };
     put_reply(
         answer,
-        emdf_form::align_reply(cursor, cursor.byte_align(bytes)),
+        emdf_answers::align_reply(cursor, cursor.byte_align(bytes)),
     )
 }
 
@@ -131,7 +131,7 @@ pub extern "C" fn emdf_variable_bits(
     let cursor = BitCursor { position, end };
     put_reply(
         answer,
-        emdf_form::field_reply(openjoc_emdf::variable_bits(bytes, cursor, width, limit)),
+        emdf_answers::field_reply(openjoc_emdf::variable_bits(bytes, cursor, width, limit)),
     )
 }
 
@@ -141,9 +141,9 @@ pub extern "C" fn emdf_classify(bytes: &[u8], answer: &mut [u8; 80]) -> u32
     ensures { λ r. ⌜ (r ≡ classNumber (classify (now (bytes .entry)))) × (now (answer .exit) ≡ words (classWords (classify (now (bytes .entry))))) ⌝ }
 {
     let class = openjoc_emdf::classify_emdf_carrier(bytes);
-    let values = emdf_form::class_words(class);
+    let values = emdf_answers::class_words(class);
     put_words(answer, 0, &values);
-    emdf_form::class_number(class)
+    emdf_answers::class_number(class)
 }
 
 // Reads the carrier; a row of 216 bytes a payload goes into the table.
@@ -156,13 +156,13 @@ pub extern "C" fn emdf_read(bytes: &[u8], table: &mut [u8], answer: &mut [u8; 72
         OpenAnswer::Open(parsed, first) => {
             let count = parsed.container.payloads;
             if table.len() / ROW_BYTES < count {
-                return put_refusal(answer, emdf_form::with_figures(13, count as u64, 0));
+                return put_refusal(answer, emdf_answers::with_figures(13, count as u64, 0));
             }
             let n = parsed.bytes_consumed.0;
             put_rows(table, &bytes[..n], first, count);
-            put_nine(answer, 0, emdf_form::parsed_words(parsed))
+            put_nine(answer, 0, emdf_answers::parsed_words(parsed))
         }
-        OpenAnswer::Refused(why) => put_refusal(answer, emdf_form::emdf_figures(why)),
+        OpenAnswer::Refused(why) => put_refusal(answer, emdf_answers::emdf_figures(why)),
     }
 }
 
@@ -185,10 +185,10 @@ pub extern "C" fn emdf_move_body(
 pub extern "C" fn emdf_verdict(bytes: &[u8], profile: u32, answer: &mut [u8; 32]) -> u32
     ensures { λ r. ⌜ (r ≡ verdictNumber (verdict (profileOf profile) (now (bytes .entry)))) × (now (answer .exit) ≡ words (verdictWords (verdict (profileOf profile) (now (bytes .entry))))) ⌝ }
 {
-    let judged = joc_profile::validate_joc_profile_for(bytes, emdf_form::profile_of(profile));
-    let values = emdf_form::verdict_words(judged);
+    let judged = joc_profile::validate_joc_profile_for(bytes, emdf_answers::profile_of(profile));
+    let values = emdf_answers::verdict_words(judged);
     put_words(answer, 0, &values);
-    emdf_form::verdict_number(judged)
+    emdf_answers::verdict_number(judged)
 }
 
 // The source with another body at place, into the destination, as with the other edits.
@@ -217,7 +217,7 @@ pub extern "C" fn emdf_edit_settings(
 ) -> u32
     ensures { λ r. ⌜ (r ≡ editedNumber (edited (settingsEdit place (settingsOf (now (settings .entry)))) (now (source .entry)) (now (destination .entry)) .answer)) × (now (answer .exit) ≡ words (editedWords (edited (settingsEdit place (settingsOf (now (settings .entry)))) (now (source .entry)) (now (destination .entry)) .answer))) × (now (destination .exit) ≡ edited (settingsEdit place (settingsOf (now (settings .entry)))) (now (source .entry)) (now (destination .entry)) .destination) ⌝ }
 {
-    let config = emdf_form::settings_of(settings);
+    let config = emdf_answers::settings_of(settings);
     let edited = emdf_edit::replace_settings(source, place, config, destination);
     put_edited(answer, edited)
 }
@@ -249,7 +249,7 @@ pub extern "C" fn emdf_edit_insert(
 ) -> u32
     ensures { λ r. ⌜ (r ≡ editedNumber (edited (insertEdit place id (settingsOf (now (settings .entry))) (now (body .entry))) (now (source .entry)) (now (destination .entry)) .answer)) × (now (answer .exit) ≡ words (editedWords (edited (insertEdit place id (settingsOf (now (settings .entry))) (now (body .entry))) (now (source .entry)) (now (destination .entry)) .answer))) × (now (destination .exit) ≡ edited (insertEdit place id (settingsOf (now (settings .entry))) (now (body .entry))) (now (source .entry)) (now (destination .entry)) .destination) ⌝ }
 {
-    let config = emdf_form::settings_of(settings);
+    let config = emdf_answers::settings_of(settings);
     let edited = emdf_edit::insert_payload(source, place, id, config, body, destination);
     put_edited(answer, edited)
 }
@@ -316,7 +316,7 @@ fn put_reply(answer: &mut [u8; 48], reply: BitReply) -> u32
 fn put_refusal(answer: &mut [u8; 72], f: Figures) -> u32
     ensures { λ r. ⌜ (r ≡ f .number) × (now (answer .exit) ≡ words (padded 9 (f .first ∷ f .second ∷ []))) ⌝ }
 {
-    put_nine(answer, f.number, emdf_form::figure_words(f))
+    put_nine(answer, f.number, emdf_answers::figure_words(f))
 }
 
 fn put_nine(answer: &mut [u8; 72], number: u32, values: [u64; 9]) -> u32
@@ -409,16 +409,16 @@ fn put_record(table: &mut [u8], at: usize, row: PayloadRecord)
     ensures { λ _. ⌜ now (table .exit) ≡ sets (now (table .entry)) at (words (recordWords row)) ⌝ }
 {
     put_word(table, at, row.id);
-    let config = emdf_form::config_words(row.config);
+    let config = emdf_answers::config_words(row.config);
     put_words(table, at + 8, &config);
-    let trace = emdf_form::trace_words(row.trace);
+    let trace = emdf_answers::trace_words(row.trace);
     put_words(table, at + 152, &trace);
 }
 
 fn put_moved(answer: &mut [u8; 16], moved: BodyAnswer) -> u32
     ensures { λ r. ⌜ (r ≡ moveNumber moved) × (now (answer .exit) ≡ words (moveWords moved)) ⌝ }
 {
-    put_two(answer, emdf_form::move_figures(moved))
+    put_two(answer, emdf_answers::move_figures(moved))
 }
 
 fn put_two(answer: &mut [u8; 16], f: Figures) -> u32
@@ -432,7 +432,7 @@ fn put_two(answer: &mut [u8; 16], f: Figures) -> u32
 fn put_edited(answer: &mut [u8; 16], edited: EditAnswer) -> u32
     ensures { λ r. ⌜ (r ≡ editedNumber edited) × (now (answer .exit) ≡ words (editedWords edited)) ⌝ }
 {
-    put_two(answer, emdf_form::edited_figures(edited))
+    put_two(answer, emdf_answers::edited_figures(edited))
 }
 
 // Numbers, 8 bytes each, from index at on.

@@ -21,8 +21,8 @@ use Rattle.emdf_format.proofs.Variable.{length-field}
 use Rattle.emdf_format.proofs.Payloads.{length-octets}
 use Rattle.emdf_format.proofs.Lengths.{length-extended, length-config, length-payload, length-container}
 use Rattle.emdf_format.proofs.Carrier.{read-contained}
-use Rattle.emdf_contents.specs.Parts.{writableProtection}
-use Rattle.emdf_contents.proofs.Asked.{groups-few, bits-few}
+use Rattle.emdf_measure.specs.Parts.{writableProtection}
+use Rattle.emdf_measure.proofs.Asked.{groups-few, bits-few}
 use Rattle.emdf_plan.specs.declared.Request.{Request}
 use Rattle.emdf_plan.specs.declared.Request.the-variants as Request
 use Rattle.emdf_plan.specs.declared.Layout.{Layout}

@@ -13,7 +13,7 @@ use Rattle.emdf_format.specs.Syntax.{_⨟_, variableField, groups, extendedFiel
 use Rattle.emdf_format.specs.Contents.{configBits, payloadBits, protectionBits, extensionBits, neededConfig, neededPayloads, neededBits, declared, writableConfig, writablePayload}
 use Rattle.emdf_format.specs.Reading.{Found, traceOf, Container, Reading, accepted, refusal, reading, payloadsOf, contentsOf}
 use Rattle.emdf_format.specs.Edits.{Edit, bodyEdit, settingsEdit, dropEdit, insertEdit, keyEdit, protectionEdit, Stepped, changed, unchanged, stepFrom}
-use Rattle.emdf_contents.specs.Parts.{writableProtection}
+use Rattle.emdf_measure.specs.Parts.{writableProtection}
 use Rattle.emdf_writer.specs.Writing.{bitRun}
 use Rattle.emdf_plan.specs.declared.Request.{Request}
 use Rattle.emdf_plan.specs.declared.Request.the-variants as Request

@@ -147,16 +147,16 @@ fn is_writable(request: Request, octets: &[u8], secondary: &[u8]) -> bool
 {
     match request {
         Request::Body(_) => true,
-        Request::Settings(_, config) => emdf_contents::writable_config(config),
+        Request::Settings(_, config) => emdf_measure::writable_config(config),
         Request::Drop(_) => true,
         Request::Insert(_, id, config) => {
             if id == 0 {
                 return false;
             }
-            emdf_contents::writable_config(config)
+            emdf_measure::writable_config(config)
         }
         Request::Key(_) => true,
-        Request::Protection => emdf_contents::writable_protection(octets, secondary),
+        Request::Protection => emdf_measure::writable_protection(octets, secondary),
     }
 }
 
@@ -165,15 +165,15 @@ fn field_bits(request: Request, octets: &[u8]) -> usize
     ensures { λ r. ⌜ (r ≡ fieldBits (editOf request (now (octets .entry)) [])) × (r ≤ 4096) ⌝ }
 {
     match request {
-        Request::Body(_) => emdf_contents::size_bits(octets.len()),
-        Request::Settings(_, config) => emdf_contents::config_bits(config),
+        Request::Body(_) => emdf_measure::size_bits(octets.len()),
+        Request::Settings(_, config) => emdf_measure::config_bits(config),
         Request::Drop(_) => 0,
         Request::Insert(_, id, config) => {
-            emdf_contents::id_bits(id)
-                + emdf_contents::config_bits(config)
-                + emdf_contents::size_bits(octets.len())
+            emdf_measure::id_bits(id)
+                + emdf_measure::config_bits(config)
+                + emdf_measure::size_bits(octets.len())
         }
-        Request::Key(id) => emdf_contents::key_bits(id) - 2,
+        Request::Key(id) => emdf_measure::key_bits(id) - 2,
         Request::Protection => 4,
     }
 }

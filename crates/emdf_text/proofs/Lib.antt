@@ -1,5 +1,4 @@
 pub mod Text
-pub mod Words
 pub mod Put
 pub mod Decimal
 mod Examples

@@ -1,9 +1,9 @@
--- The decimal number that stands in a text, and words. Assumes nothing.
+-- The decimal number that stands in a text. Assumes nothing.
 use Prim.Native.Nat.{ℕ, suc, _+_, _-_, _*_, _^_}
 use mathlib.Core.List.{List, [], _∷_}
-use mathlib.Core.Bool.{Bool, true, false, cond}
+use mathlib.Core.Bool.{Bool, false, cond}
 use lib.ListN.{getD, drop}
-use lib.Dec.{leb, ltb, eqb}
+use lib.Dec.{leb, ltb}
 use Rattle.emdf_text.specs.declared.NumberAnswer.{NumberAnswer}
 use Rattle.emdf_text.specs.declared.NumberAnswer.the-variants.{Number, Nothing}
 use Rattle.emdf_text.specs.declared.DigitStep.{DigitStep}
@@ -26,10 +26,3 @@ numberAt s at = cond (digit (getD s at 0)) (scan 0 at (drop at s)) Nothing
 -- one byte of a scan
 unfoldable pub digitStep : ℕ → ℕ → DigitStep
 digitStep v b = cond (digit b) (cond (ltb (v * 10 + (b - 48)) (2 ^ 64)) (Next (v * 10 + (b - 48))) TooLarge) End
-
--- two words, byte by byte
-unfoldable pub same : List ℕ → List ℕ → Bool
-same [] [] = true
-same [] (y ∷ ys) = false
-same (x ∷ xs) [] = false
-same (x ∷ xs) (y ∷ ys) = cond (eqb x y) (same xs ys) false

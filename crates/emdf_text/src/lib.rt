@@ -1,10 +1,9 @@
-// Text, as the programs read and write it: decimal numbers in it, words, and lines in a buffer.
+// Text, as the programs read and write it: decimal numbers in it, and lines in a buffer.
 mod lines;
 
 ghost use mathlib.Core.Path.{_≡_};
 ghost use lib.ListN.{drop};
-ghost use Rattle.emdf_text.specs.Text.{digit, digitStep, scan, numberAt, same};
-pub use lines::put_bytes;
+ghost use Rattle.emdf_text.specs.Text.{digit, digitStep, scan, numberAt};
 pub use lines::put_decimal;
 pub use lines::put_line;
 
@@ -68,28 +67,11 @@ fn digit_step(value: u64, byte: u8) -> DigitStep
     DigitStep::Next(value * 10 + figure)
 }
 
-pub fn is_digit(byte: u8) -> bool
+fn is_digit(byte: u8) -> bool
     ensures { λ r. ⌜ r ≡ digit byte ⌝ }
 {
     if byte < 48 {
         return false;
     }
     byte <= 57
-}
-
-// Whether two words are one, byte for byte.
-pub fn is_same(a: &[u8], b: &[u8]) -> bool
-    ensures { λ r. ⌜ r ≡ same (now (a .entry)) (now (b .entry)) ⌝ }
-{
-    if a.len() != b.len() {
-        return false;
-    }
-    let mut i: usize = 0;
-    while i < a.len() {
-        if a[i] != b[i] {
-            return false;
-        }
-        i += 1;
-    }
-    true
 }

@@ -72,7 +72,7 @@ pub fn put_decimal(out: &mut [u8], at: usize, number: u64) -> usize
 }
 
 // The bytes, where they have room; else nothing.
-pub fn put_bytes(out: &mut [u8], at: usize, bytes: &[u8]) -> usize
+fn put_bytes(out: &mut [u8], at: usize, bytes: &[u8]) -> usize
     ensures { λ r. ⌜ PutWithin (length (now (bytes .entry))) (now (out .entry)) at (now (bytes .entry)) (now (out .exit)) r ⌝ }
 {
     if out.len() < at {

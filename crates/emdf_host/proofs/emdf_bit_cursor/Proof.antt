@@ -1,5 +1,5 @@
 use borrow.Author.Needs.{needs}
-use Rattle.emdf_form.specs.Bits.{newReply}
+use Rattle.emdf_answers.specs.Bits.{newReply}
 use Rattle.emdf_host.proofs.emdf_bit_cursor.Statement.{statement}
 use Rattle.emdf_host.proofs.emdf_bit_cursor.Tie as tie
 

@@ -1,5 +1,5 @@
 use borrow.Author.Needs.{needs}
-use Rattle.emdf_form.specs.Bits.{remainingReply}
+use Rattle.emdf_answers.specs.Bits.{remainingReply}
 use Rattle.emdf_host.proofs.emdf_bits_remaining.Statement.{statement}
 use Rattle.emdf_host.proofs.emdf_bits_remaining.Tie as tie
 

@@ -1,5 +1,5 @@
 use borrow.Author.Needs.{needs}
-use Rattle.emdf_form.specs.Bits.{byteAlignReply}
+use Rattle.emdf_answers.specs.Bits.{byteAlignReply}
 use Rattle.emdf_host.proofs.emdf_byte_align.Statement.{statement}
 use Rattle.emdf_host.proofs.emdf_byte_align.Tie as tie
 

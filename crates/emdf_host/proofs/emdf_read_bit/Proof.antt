@@ -1,5 +1,5 @@
 use borrow.Author.Needs.{needs}
-use Rattle.emdf_form.specs.Bits.{readBitReply}
+use Rattle.emdf_answers.specs.Bits.{readBitReply}
 use Rattle.emdf_host.proofs.emdf_read_bit.Statement.{statement}
 use Rattle.emdf_host.proofs.emdf_read_bit.Tie as tie
 

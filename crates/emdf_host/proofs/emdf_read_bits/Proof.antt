@@ -1,5 +1,5 @@
 use borrow.Author.Needs.{needs}
-use Rattle.emdf_form.specs.Bits.{readBitsReply}
+use Rattle.emdf_answers.specs.Bits.{readBitsReply}
 use Rattle.emdf_host.proofs.emdf_read_bits.Statement.{statement}
 use Rattle.emdf_host.proofs.emdf_read_bits.Tie as tie
 

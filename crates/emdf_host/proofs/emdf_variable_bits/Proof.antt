@@ -1,5 +1,5 @@
 use borrow.Author.Needs.{needs}
-use Rattle.emdf_form.specs.Fields.{variableBitsReply}
+use Rattle.emdf_answers.specs.Fields.{variableBitsReply}
 use Rattle.emdf_host.proofs.emdf_variable_bits.Statement.{statement}
 use Rattle.emdf_host.proofs.emdf_variable_bits.Tie as tie
 

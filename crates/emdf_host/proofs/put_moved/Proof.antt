@@ -1,6 +1,6 @@
 use borrow.Author.Needs.{needs}
 use mathlib.Core.Path.{ap, _∙_}
-use Rattle.emdf_form.specs.Form.{words}
+use Rattle.emdf_answers.specs.Form.{words}
 use Rattle.emdf_host.proofs.Carriers.{move-words}
 use Rattle.emdf_host.proofs.put_moved.Statement.{statement}
 use Rattle.emdf_host.proofs.put_moved.Tie as tie

@@ -1,6 +1,6 @@
 use borrow.Author.Needs.{needs}
 use mathlib.Core.Path.{refl, _∙_}
-use Rattle.emdf_form.specs.Bits.{replyBytes}
+use Rattle.emdf_answers.specs.Bits.{replyBytes}
 use Rattle.emdf_host.proofs.Stored.{words-whole}
 use Rattle.emdf_host.proofs.put_reply.Statement.{statement}
 use Rattle.emdf_host.proofs.put_reply.Tie as tie

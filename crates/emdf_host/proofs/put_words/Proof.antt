@@ -5,7 +5,7 @@ use native.Mathlib.Omega.{arith}
 use lib.ListN.{length, drop}
 use denote.Ref.{now}
 use lib.Seq.{sets, length-sets}
-use Rattle.emdf_form.specs.Form.{words}
+use Rattle.emdf_answers.specs.Form.{words}
 use Rattle.emdf_host.proofs.Stored.{word-stored, words-done}
 use Rattle.emdf_host.proofs.put_words.Statement.{statement}
 use Rattle.emdf_host.proofs.put_words.Tie as tie

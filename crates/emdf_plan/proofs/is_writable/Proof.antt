@@ -5,7 +5,7 @@ use native.Mathlib.Omega.{arith}
 use borrow.Author.Tests.{lt-ltb, le-leb, lt-leb}
 use denote.Enum.Laws.{vals, owed}
 use Rattle.emdf_format.specs.Contents.{writablePayload}
-use Rattle.emdf_contents.proofs.Asked.{stop, go}
+use Rattle.emdf_measure.proofs.Asked.{stop, go}
 use Rattle.emdf_plan.specs.Plan.{editOf, writableEdit}
 use Rattle.emdf_plan.proofs.Request.{the-type}
 use Rattle.emdf_plan.proofs.Request.Laws.{the-laws}

@@ -1,6 +1,0 @@
-pub mod Line
-pub mod Hex
-pub mod Fitting
-pub mod Asking
-pub mod Outcomes
-mod Examples
