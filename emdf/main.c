@@ -1,0 +1,93 @@
+/* emdf: inspects and edits EMDF carriers in files. */
+#include <stdarg.h>
+#include <string.h>
+
+#include "program.h"
+
+struct command {
+    const char *name;
+    int (*run)(char **words);
+    const char *usage, *effect;
+};
+
+static const struct command COMMANDS[] = {
+    {"info", command_info, "[--json] FILE..", "what stands in each file"},
+    {"verdict", command_verdict, "[--strict|--compat] [--json] FILE..", "whether it meets TS 103 420, and where it does not; strict if neither is named"},
+    {"body", command_body, "FILE PLACE [-o OUT]", "the body of the payload at a place"},
+    {"blank", command_blank, "[key=ID] [primary=HEX] [secondary=HEX] [-o OUT]", "a carrier without payloads"},
+    {"edit", command_edit, "FILE -o OUT EDIT..", "edits, each on what the one before it left"},
+};
+
+static const char DETAILS[] =
+    "\n"
+    "The edits:\n"
+    "  body PLACE HEX|@FILE                        another body\n"
+    "  set PLACE NAME=VALUE..                      other settings; what is not named stays\n"
+    "  drop PLACE                                  a payload less\n"
+    "  insert PLACE id=ID [NAME=VALUE..] [body=HEX|@FILE]\n"
+    "                                              a payload more, before PLACE\n"
+    "  key ID                                      another key id\n"
+    "  protection HEX HEX                          other primary and secondary protection\n"
+    "\n"
+    "FILE - is standard input, OUT - standard output. Places count from 0. HEX is pairs\n"
+    "of hexadecimal digits, or - for no bytes. NAME is a setting:\n";
+
+static const char STATUS[] =
+    "VALUE is a number, or absent. from=bare or from=profile names all ten at once.\n"
+    "\n"
+    "Exit status: 0 done or accepted, 1 refused, malformed or no carrier, 2 usage, input\n"
+    "or output. emdf(1) has the rest.\n";
+
+enum { COMMAND_COUNT = sizeof COMMANDS / sizeof *COMMANDS };
+
+static void print_usage(FILE *out, const struct command *command)
+{
+    fprintf(out, "usage: emdf %s %s\n", command->name, command->usage);
+}
+
+int usage_error(const char *name, const char *format, ...)
+{
+    va_list values;
+    size_t i;
+    fprintf(stderr, "emdf: %s: ", name);
+    va_start(values, format);
+    vfprintf(stderr, format, values);
+    va_end(values);
+    fputc('\n', stderr);
+    for (i = 0; i < COMMAND_COUNT; i++)
+        if (!strcmp(name, COMMANDS[i].name))
+            print_usage(stderr, &COMMANDS[i]);
+    return FAILED;
+}
+
+static int print_help(void)
+{
+    size_t i;
+    puts("emdf inspects and edits EMDF carriers in files.\n");
+    for (i = 0; i < COMMAND_COUNT; i++)
+        printf("  emdf %s %s\n      %s\n", COMMANDS[i].name, COMMANDS[i].usage, COMMANDS[i].effect);
+    fputs(DETAILS, stdout);
+    for (i = 0; i < EMDF_SETTING_COUNT; i++)
+        printf("%s%s", i % 3 ? ", " : i ? ",\n  " : "  ", emdf_setting_name((unsigned)i));
+    printf(".\n%s", STATUS);
+    return DONE;
+}
+
+int main(int count, char **words)
+{
+    size_t i;
+    if (count < 2) {
+        fputs("emdf: no command is named\nusage: emdf info|verdict|body|blank|edit ..; emdf --help says more\n", stderr);
+        return FAILED;
+    }
+    if (!strcmp(words[1], "--help") || !strcmp(words[1], "help"))
+        return finish_output(print_help());
+    for (i = 0; i < COMMAND_COUNT; i++)
+        if (!strcmp(words[1], COMMANDS[i].name))
+            return finish_output(words[2] && !strcmp(words[2], "--help") ? (print_usage(stdout, &COMMANDS[i]), (int)DONE)
+                                                                      : COMMANDS[i].run(words + 2));
+    fputs("emdf: no command is called ", stderr);
+    print_text(stderr, words[1]);
+    fputs("\nusage: emdf info|verdict|body|blank|edit ..; emdf --help says more\n", stderr);
+    return FAILED;
+}

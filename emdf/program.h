@@ -1,0 +1,145 @@
+/* The parts of the program emdf. Every answer about a carrier comes through emdf.h. */
+#ifndef PROGRAM_H
+#define PROGRAM_H
+
+#include <stdio.h>
+
+#include "emdf_names.h"
+
+/* The exit status. */
+enum {
+    DONE = 0,    /* or accepted */
+    REFUSED = 1, /* or malformed, or no carrier */
+    FAILED = 2   /* usage, input or output */
+};
+
+enum {
+    /* A carrier is 4 bytes and then the declared ones, which a number of 16 bits counts. */
+    DECLARED_MOST = 65535,
+    CARRIER_MOST = 4 + DECLARED_MOST,
+    /* No carrier has a body of so many bytes. */
+    BODY_TOO_LONG = DECLARED_MOST + 1,
+    /* 22 bits besides the payloads, and at least 19 for each: id 5, the settings' five flags, size 9. */
+    PAYLOADS_MOST = (8 * DECLARED_MOST - 22) / 19,
+    BODY_BYTES_SHOWN = 16
+};
+
+/* ---- files.c */
+
+/* "emdf: ABOUT: ..." on standard error; about may be NULL. Answers FAILED. */
+int complain(const char *about, const char *format, ...);
+
+/* A file's name as messages have it: standard input for "-". */
+const char *input_title(const char *name);
+
+/* Reads all of a file, of standard input for "-", into at most room bytes. Answers 0 and complains where it can't be read, and
+   where it is longer, unless it may be cut. */
+int load_file(const char *name, uint8_t *bytes, size_t room, int may_be_cut, size_t *length);
+
+/* Writes bytes to standard output for "-", else to a file that is complete and on disk before it takes the name. */
+int save_file(const char *name, const uint8_t *bytes, size_t length);
+
+/* Whether all of standard output was written. */
+int finish_output(int status);
+
+/* ---- text.c */
+
+/* A text with its control characters as '?'. */
+void print_text(FILE *out, const char *text);
+
+/* A text as a string of JSON. */
+void print_json_text(const char *text);
+
+/* A number and a noun: "1 byte", "2 bytes". */
+void print_count(uint64_t n, const char *noun);
+
+void print_hex(const uint8_t *bytes, size_t length);
+
+/* "15: the profile is not met (marks 0x0023e8, deviations 7)". */
+void print_refusal(FILE *out, uint32_t number, uint64_t first, uint64_t second);
+
+/* The members "number", "words" and "figures" of an object of JSON. */
+void print_json_refusal(uint32_t number, uint64_t first, uint64_t second);
+
+/* ---- carrier.c */
+
+struct input {
+    const char *name;
+    uint8_t bytes[CARRIER_MOST + 1]; /* the byte more tells a file that is too long */
+    size_t length;
+};
+
+/* What emdf_read answered, and the rows that it filled. */
+struct reading {
+    uint32_t number;
+    uint8_t answer[EMDF_READ_ANSWER];
+    const uint8_t *rows;
+    size_t count;     /* 0 where it refused */
+    uint64_t bytes;   /* of the carrier */
+    uint64_t key_end; /* in bits, as all that follows */
+    uint64_t end_mark, codes, protection, padding;
+};
+
+int load_input(struct input *input, const char *name);
+void read_carrier(const struct input *input, struct reading *reading);
+const uint8_t *row_at(const struct reading *reading, size_t place);
+const uint8_t *settings_at(const struct reading *reading, size_t place);
+
+/* The first bytes of a payload's body, at most BODY_BYTES_SHOWN; answers how many. */
+size_t body_start(const struct input *input, const uint8_t *row, uint8_t *first);
+
+/* A protection's bytes, and their number. */
+const uint8_t *primary_of(const struct reading *reading, size_t *length);
+const uint8_t *secondary_of(const struct reading *reading, size_t *length);
+
+/* ---- verdict.c */
+
+struct verdict {
+    uint32_t profile, number;
+    uint8_t answer[EMDF_VERDICT_ANSWER];
+};
+
+void judge(const struct input *input, uint32_t profile, struct verdict *verdict);
+const char *profile_name(uint32_t profile);
+
+/* "accepted by strict: ..." or "refused by strict, 15: ...", without an end of line. */
+void print_verdict(const struct verdict *verdict);
+
+/* An object of JSON, the deviations with what was found in it. */
+void print_json_verdict(const struct verdict *verdict, const struct reading *reading);
+
+/* ---- ruler.c */
+
+void print_ruler(const struct reading *reading);
+
+/* ---- the commands: words are what follows the command's name; each answers an exit status */
+
+int command_info(char **words);
+int command_verdict(char **words);
+int command_body(char **words);
+int command_blank(char **words);
+int command_edit(char **words);
+
+/* "emdf: COMMAND: ..." and the command's usage. Answers FAILED. */
+int usage_error(const char *command, const char *format, ...);
+
+/* ---- arguments.c */
+
+/* Takes "-o OUT" out of words. OUT stays NULL where it isn't there. Answers 0 where OUT is missing or named twice. */
+int take_output(const char *command, char **words, const char **out);
+
+/* 0 where the text is no decimal number of 64 bits. */
+int parse_number(const char *text, uint64_t *value);
+
+struct octets {
+    uint8_t *bytes; /* its own, to be freed */
+    size_t length;
+};
+
+/* Pairs of hexadecimal digits, "-" for none. 0 where the text is neither. */
+int parse_hex(const char *text, struct octets *octets);
+
+/* The value of a word "name=value", or NULL where it has another name. */
+const char *value_of(const char *word, const char *name);
+
+#endif

@@ -1,0 +1,89 @@
+/* Words, figures and names on standard output. */
+#include <inttypes.h>
+#include <string.h>
+
+#include "program.h"
+
+void print_text(FILE *out, const char *text)
+{
+    for (; *text; text++)
+        fputc((unsigned char)*text < 0x20 || *text == 0x7f ? '?' : *text, out);
+}
+
+void print_count(uint64_t n, const char *noun)
+{
+    printf("%" PRIu64 " %s%s", n, noun, n == 1 ? "" : "s");
+}
+
+void print_hex(const uint8_t *bytes, size_t length)
+{
+    size_t i;
+    for (i = 0; i < length; i++)
+        printf("%02x", (unsigned)bytes[i]);
+}
+
+/* ---- refusals */
+
+static int is_marks(const char *name)
+{
+    return !strcmp(name, "marks");
+}
+
+void print_refusal(FILE *out, uint32_t number, uint64_t first, uint64_t second)
+{
+    const uint64_t figures[2] = {first, second};
+    unsigned i;
+    fprintf(out, "%" PRIu32 ": %s", number, emdf_refusal_text(number));
+    for (i = 0; i < 2 && emdf_refusal_figure(number, i); i++) {
+        const char *name = emdf_refusal_figure(number, i);
+        fprintf(out, "%s%s ", i ? ", " : " (", name);
+        fprintf(out, is_marks(name) ? "0x%06" PRIx64 : "%" PRIu64, figures[i]);
+    }
+    if (i)
+        fputc(')', out);
+}
+
+void print_json_refusal(uint32_t number, uint64_t first, uint64_t second)
+{
+    const uint64_t figures[2] = {first, second};
+    unsigned i;
+    printf("\"number\":%" PRIu32 ",\"words\":\"%s\",\"figures\":{", number, emdf_refusal_text(number));
+    for (i = 0; i < 2 && emdf_refusal_figure(number, i); i++)
+        printf("%s\"%s\":%" PRIu64, i ? "," : "", emdf_refusal_figure(number, i), figures[i]);
+    putchar('}');
+}
+
+/* ---- JSON */
+
+/* How many bytes the UTF-8 character at text takes; 0 where none stands there. */
+static size_t character_length(const unsigned char *text)
+{
+    size_t length = text[0] < 0x80 ? 1 : text[0] < 0xc2 ? 0 : text[0] < 0xe0 ? 2 : text[0] < 0xf0 ? 3 : text[0] < 0xf5 ? 4 : 0, i;
+    for (i = 1; i < length; i++)
+        if ((text[i] & 0xc0) != 0x80)
+            return 0;
+    /* overlong forms, surrogates, and what is above U+10FFFF */
+    if ((text[0] == 0xe0 && text[1] < 0xa0) || (text[0] == 0xed && text[1] > 0x9f) || (text[0] == 0xf0 && text[1] < 0x90) ||
+        (text[0] == 0xf4 && text[1] > 0x8f))
+        return 0;
+    return length;
+}
+
+void print_json_text(const char *text)
+{
+    const unsigned char *at = (const unsigned char *)text;
+    putchar('"');
+    while (*at) {
+        size_t length = character_length(at);
+        if (!length)
+            printf("\\ufffd");
+        else if (*at == '"' || *at == '\\')
+            printf("\\%c", *at);
+        else if (*at < 0x20 || *at == 0x7f)
+            printf("\\u%04x", (unsigned)*at);
+        else
+            fwrite(at, 1, length, stdout);
+        at += length ? length : 1;
+    }
+    putchar('"');
+}
