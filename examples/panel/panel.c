@@ -1,5 +1,6 @@
 /* A commissioning panel in a terminal: loads a file, shows the EMDF carrier in it and gives a verdict on it.
-   One command a line on standard input; HELP lists them. Every answer of the library comes through emdf.h. */
+   One command a line on standard input; HELP lists them. panel FILE [strict|compat] does all three at once and ends.
+   Every answer of the library comes through emdf.h. */
 #define _POSIX_C_SOURCE 200112L /* for isatty and strcasecmp */
 
 #include <errno.h>
@@ -9,7 +10,7 @@
 #include <strings.h>
 #include <unistd.h>
 
-#include "emdf.h"
+#include "emdf_names.h"
 
 enum {
     /* A carrier is 4 bytes and then the declared ones, which a number of 16 bits counts. */
@@ -31,10 +32,13 @@ enum {
     PROTECTION_FIELD = 16 /* bytes that a protection takes in an answer */
 };
 
+/* The exit status: the largest that an answer had. */
+enum { FINE, REFUSED, FAILED };
+
 struct panel {
     uint8_t file[CARRIER_MOST + 1]; /* the byte more tells a file that is too long */
     size_t length;
-    int is_loaded, is_ended;
+    int is_loaded, is_ended, status;
     uint32_t profile;
     const char *argument; /* what stands after the key in the line */
 };
@@ -42,59 +46,22 @@ struct panel {
 /* Rows are filled by emdf_read alone, and read only as far as it filled them. */
 static uint8_t table[(size_t)PAYLOADS_MOST * EMDF_ROW];
 
-/* A body lies in the declared bytes, so no body is longer. */
-static uint8_t scratch[DECLARED_MOST];
+static void raise_status(struct panel *panel, int status)
+{
+    if (panel->status < status)
+        panel->status = status;
+}
 
 /* ---- refusals */
 
-struct refusal {
-    uint32_t number;
-    const char *words;
-    const char *first; /* the figures' names; NULL where there is none */
-    const char *second;
-};
-
-static const struct refusal REFUSALS[] = {
-    {EMDF_TRUNCATED_CONTAINER, "too few bytes", "needed", "available"},
-    {EMDF_INVALID_SYNCWORD, "no sync word", "actual", NULL},
-    {EMDF_END_OF_INPUT, "too few bits for a field", "requested", "remaining"},
-    {EMDF_INVALID_WIDTH, "a width above 64", "width", NULL},
-    {EMDF_INVALID_VARIABLE_BITS, "no variable field has this width and limit", "width", "limit"},
-    {EMDF_VARIABLE_BITS_GROUP_LIMIT, "a variable field has too many groups", "width", "limit"},
-    {EMDF_VALUE_OVERFLOW, "a field is above 2^64 - 1", NULL, NULL},
-    {EMDF_UNSUPPORTED_VERSION, "a version other than 0", "version", NULL},
-    {EMDF_NONZERO_RESERVED_DATA, "reserved bits are not zero", NULL, NULL},
-    {EMDF_RESERVED_PRIMARY_PROTECTION_LENGTH, "the primary protection has the reserved length", NULL, NULL},
-    {EMDF_EXCESS_PADDING, "more than 7 bits after the protection", "bits", NULL},
-    {EMDF_NONZERO_PADDING, "padding is not zero", NULL, NULL},
-    {EMDF_TABLE_TOO_SHORT, "the table has too few rows", "payloads", NULL},
-    {EMDF_PAYLOAD_COUNT, "not one OAMD and one JOC payload", "oamd", "joc"},
-    {EMDF_CONFIGURATION, "the profile is not met", "marks", "deviations"},
-    {EMDF_NO_SUCH_PAYLOAD, "no payload at this place", NULL, NULL},
-    {EMDF_NOT_WRITABLE, "the contents cannot be written", NULL, NULL},
-    {EMDF_TOO_LONG, "more than 65535 bytes to declare", NULL, NULL},
-    {EMDF_SCRATCH_TOO_SHORT, "the destination is too short", "needed", NULL},
-    {EMDF_TRAILING_BYTES, "bytes after the container", NULL, NULL},
-};
-
-static const struct refusal *find_refusal(uint32_t number)
+/* number, words and figures by name; the marks of a verdict are shown as bits. */
+static void print_refusal(uint32_t number, const uint8_t *answer, size_t first)
 {
-    static const struct refusal unlisted = {0, "a refusal that this panel does not know", "first", "second"};
-    size_t i;
-    for (i = 0; i < sizeof REFUSALS / sizeof *REFUSALS; i++)
-        if (REFUSALS[i].number == number)
-            return &REFUSALS[i];
-    return &unlisted;
-}
-
-static void print_refusal(uint32_t number, uint64_t first, uint64_t second)
-{
-    const struct refusal *refusal = find_refusal(number);
-    printf("number=%" PRIu32 " words=\"%s\"", number, refusal->words);
-    if (refusal->first)
-        printf(" %s=%" PRIu64, refusal->first, first);
-    if (refusal->second)
-        printf(" %s=%" PRIu64, refusal->second, second);
+    unsigned i;
+    printf("number=%" PRIu32 " words=\"%s\"", number, emdf_refusal_text(number));
+    for (i = 0; i < 2 && emdf_refusal_figure(number, i); i++)
+        printf(number == EMDF_CONFIGURATION && !i ? " %s=0x%06" PRIx64 : " %s=%" PRIu64, emdf_refusal_figure(number, i),
+               emdf_word(answer, first + i));
     putchar('\n');
 }
 
@@ -107,13 +74,14 @@ static void print_reading(const char *title, const uint8_t *nine)
            emdf_word(nine, EMDF_KEY_ID), emdf_word(nine, EMDF_PAYLOADS));
 }
 
-static void print_class(const struct panel *panel)
+static void print_class(struct panel *panel)
 {
     uint8_t answer[EMDF_CLASS_ANSWER];
     uint32_t number = emdf_classify(panel->file, panel->length, answer);
     switch (emdf_word(answer, EMDF_CLASS)) {
     case EMDF_NON_EMDF:
         puts("class non-emdf");
+        raise_status(panel, REFUSED);
         break;
     case EMDF_PARSED:
         print_reading("class parsed", answer + 8 * EMDF_CLASS_READING);
@@ -125,7 +93,8 @@ static void print_class(const struct panel *panel)
         break;
     default:
         printf("class malformed ");
-        print_refusal(number, emdf_word(answer, EMDF_CLASS_FIRST_FIGURE), emdf_word(answer, EMDF_CLASS_SECOND_FIGURE));
+        print_refusal(number, answer, EMDF_CLASS_FIRST_FIGURE);
+        raise_status(panel, REFUSED);
     }
 }
 
@@ -151,7 +120,8 @@ static void press_input(struct panel *panel)
     /* After a failure the file before it is gone too, so that no verdict is taken for that of this one. */
     panel->is_loaded = !failure;
     if (failure) {
-        printf("error input: %s; nothing is loaded\n", failure);
+        printf("error input %s: %s; nothing is loaded\n", panel->argument, failure);
+        raise_status(panel, FAILED);
         return;
     }
     printf("input bytes=%lu\n", (unsigned long)panel->length);
@@ -159,26 +129,6 @@ static void press_input(struct panel *panel)
 }
 
 /* ---- STREAM */
-
-enum { ALWAYS_PRESENT = 0 }; /* no presence stands at a row's number 0: it is the id */
-
-struct setting {
-    const char *name;
-    size_t presence, value; /* where they stand in a row */
-};
-
-static const struct setting SETTINGS[] = {
-    {"sample_offset", EMDF_ROW_HAS_SAMPLE_OFFSET, EMDF_ROW_SAMPLE_OFFSET},
-    {"duration", EMDF_ROW_HAS_DURATION, EMDF_ROW_DURATION},
-    {"group_id", EMDF_ROW_HAS_GROUP_ID, EMDF_ROW_GROUP_ID},
-    {"codec_data_present", ALWAYS_PRESENT, EMDF_ROW_CODEC_DATA_PRESENT},
-    {"discard_unknown_payload", ALWAYS_PRESENT, EMDF_ROW_DISCARD_UNKNOWN_PAYLOAD},
-    {"payload_frame_aligned", EMDF_ROW_HAS_PAYLOAD_FRAME_ALIGNED, EMDF_ROW_PAYLOAD_FRAME_ALIGNED},
-    {"create_duplicate", EMDF_ROW_HAS_CREATE_DUPLICATE, EMDF_ROW_CREATE_DUPLICATE},
-    {"remove_duplicate", EMDF_ROW_HAS_REMOVE_DUPLICATE, EMDF_ROW_REMOVE_DUPLICATE},
-    {"priority", EMDF_ROW_HAS_PRIORITY, EMDF_ROW_PRIORITY},
-    {"processing_allowed", EMDF_ROW_HAS_PROCESSING_ALLOWED, EMDF_ROW_PROCESSING_ALLOWED},
-};
 
 struct part {
     const char *name;
@@ -214,13 +164,13 @@ static void print_protection(const char *name, const uint8_t *answer, size_t len
 
 static void print_settings(const uint8_t *row)
 {
-    size_t i;
+    const uint8_t *settings = row + 8 * EMDF_ROW_HAS_SAMPLE_OFFSET;
+    uint64_t value;
+    unsigned i;
     printf("  settings");
-    for (i = 0; i < sizeof SETTINGS / sizeof *SETTINGS; i++) {
-        const struct setting *setting = &SETTINGS[i];
-        if (setting->presence == ALWAYS_PRESENT || emdf_word(row, setting->presence))
-            printf(" %s=%" PRIu64, setting->name, emdf_word(row, setting->value));
-    }
+    for (i = 0; i < EMDF_SETTING_COUNT; i++)
+        if (emdf_setting(settings, i, &value))
+            printf(" %s=%" PRIu64, emdf_setting_name(i), value);
     putchar('\n');
 }
 
@@ -250,24 +200,19 @@ static void print_ruler(const uint8_t *row)
     printf("%" PRIu64 " bits_a_mark=%" PRIu64 "\n", end, bits_a_mark);
 }
 
-/* An empty body isn't asked for: each call reads the whole carrier again. */
-static void print_body(const struct panel *panel, size_t place, const uint8_t *row)
+/* The row has the body's span, so its first bytes are read there: a move call would read the whole carrier for each body. */
+static void print_body(const struct panel *panel, const uint8_t *row)
 {
-    uint8_t answer[EMDF_MOVE_ANSWER];
-    uint64_t start = emdf_word(row, EMDF_ROW_BODY_START_BIT);
-    uint64_t length = (emdf_word(row, EMDF_ROW_BODY_END_BIT) - start) / 8;
-    int is_aligned = start % 8 == 0, is_cut = length > BODY_BYTES_SHOWN;
-    uint32_t number = 0;
-    if (length)
-        number = emdf_move_body(panel->file, panel->length, place, scratch, sizeof scratch, answer);
-    if (number) {
-        printf("  body refused ");
-        print_refusal(number, emdf_word(answer, 0), emdf_word(answer, 1));
-        return;
+    uint8_t first[BODY_BYTES_SHOWN], answer[EMDF_BIT_ANSWER];
+    size_t start = (size_t)emdf_word(row, EMDF_ROW_BODY_START_BIT), end = (size_t)emdf_word(row, EMDF_ROW_BODY_END_BIT);
+    size_t length = (end - start) / 8, n;
+    for (n = 0; n < length && n < BODY_BYTES_SHOWN; n++) {
+        emdf_read_bits(panel->file, panel->length, start + 8 * n, end, 8, answer);
+        first[n] = (uint8_t)emdf_word(answer, EMDF_VALUE);
     }
-    printf("  body %s bytes=%" PRIu64 " first=", is_aligned ? "aligned" : "moved", length);
-    print_bytes(is_aligned ? panel->file + start / 8 : scratch, is_cut ? (size_t)BODY_BYTES_SHOWN : (size_t)length);
-    puts(is_cut ? ".." : "");
+    printf("  body %s bytes=%lu first=", start % 8 ? "unaligned" : "aligned", (unsigned long)length);
+    print_bytes(first, n);
+    puts(n < length ? ".." : "");
 }
 
 static void print_payload(const struct panel *panel, size_t place)
@@ -277,7 +222,7 @@ static void print_payload(const struct panel *panel, size_t place)
     print_settings(row);
     print_spans(row);
     print_ruler(row);
-    print_body(panel, place, row);
+    print_body(panel, row);
 }
 
 static void press_stream(struct panel *panel)
@@ -287,7 +232,8 @@ static void press_stream(struct panel *panel)
     size_t place;
     if (number) {
         printf("error stream: ");
-        print_refusal(number, emdf_word(answer, 0), emdf_word(answer, 1));
+        print_refusal(number, answer, 0);
+        raise_status(panel, REFUSED);
         return;
     }
     print_reading("container", answer);
@@ -310,6 +256,7 @@ static void press_profile(struct panel *panel)
     int is_strict = !strcasecmp(panel->argument, "strict");
     if (!is_strict && strcasecmp(panel->argument, "compat")) {
         puts("error profile: strict or compat");
+        raise_status(panel, FAILED);
         return;
     }
     panel->profile = is_strict ? EMDF_STRICT : EMDF_COMPAT;
@@ -328,13 +275,14 @@ static void press_commit(struct panel *panel)
 {
     uint8_t answer[EMDF_VERDICT_ANSWER];
     uint32_t number = emdf_verdict(panel->file, panel->length, panel->profile, answer);
-    if (number)
-        printf("verdict refused profile=%s number=%" PRIu32 " first=%" PRIu64 " second=%" PRIu64 " words=\"%s\"\n",
-               profile_name(panel), number, emdf_word(answer, 0), emdf_word(answer, 1), find_refusal(number)->words);
-    else
-        printf("verdict accepted profile=%s oamd=%" PRIu64 " joc=%" PRIu64 " marks=0x%06" PRIx64 " deviations=%u\n",
-               profile_name(panel), emdf_word(answer, EMDF_OAMD_PLACE), emdf_word(answer, EMDF_JOC_PLACE),
-               emdf_word(answer, EMDF_MARKS), count_ones(emdf_word(answer, EMDF_MARKS)));
+    printf("verdict %s profile=%s ", number ? "refused" : "accepted", profile_name(panel));
+    if (number) {
+        print_refusal(number, answer, 0);
+        raise_status(panel, REFUSED);
+    } else {
+        printf("oamd=%" PRIu64 " joc=%" PRIu64 " marks=0x%06" PRIx64 " deviations=%u\n", emdf_word(answer, EMDF_OAMD_PLACE),
+               emdf_word(answer, EMDF_JOC_PLACE), emdf_word(answer, EMDF_MARKS), count_ones(emdf_word(answer, EMDF_MARKS)));
+    }
 }
 
 /* ---- the keys */
@@ -373,17 +321,27 @@ static void press_help(struct panel *panel)
         printf("%-7s %-13s  %s\n", KEYS[i].name, KEYS[i].argument, KEYS[i].effect);
 }
 
-static void press_key(struct panel *panel, const char *name)
+/* Says what is wrong with the line, 0 where nothing is. */
+static int is_wrong(const struct panel *panel, const struct key *key)
 {
-    const struct key *key = KEYS, *end = KEYS + KEY_COUNT;
-    while (key < end && strcasecmp(name, key->name))
-        key++;
-    if (key == end)
+    if (key == KEYS + KEY_COUNT)
         puts("error unknown command; HELP lists them");
     else if (!*panel->argument != !*key->argument)
         printf("error usage: %s%s%s\n", key->name, *key->argument ? " " : "", key->argument);
     else if (key->needs_file && !panel->is_loaded)
         puts("error nothing is loaded");
+    else
+        return 0;
+    return 1;
+}
+
+static void press_key(struct panel *panel, const char *name)
+{
+    const struct key *key = KEYS;
+    while (key < KEYS + KEY_COUNT && strcasecmp(name, key->name))
+        key++;
+    if (is_wrong(panel, key))
+        raise_status(panel, FAILED);
     else
         key->press(panel);
 }
@@ -391,7 +349,7 @@ static void press_key(struct panel *panel, const char *name)
 /* ---- lines */
 
 /* 0 at the end of the input. A line that can't be taken whole is passed over whole, and is a blank one. */
-static int read_line(char *line)
+static int read_line(struct panel *panel, char *line)
 {
     size_t length = 0;
     int is_whole = 1, c = getchar();
@@ -404,8 +362,10 @@ static int read_line(char *line)
             line[length++] = (char)c;
     }
     line[is_whole ? length : 0] = '\0';
-    if (!is_whole)
+    if (!is_whole) {
         puts("error the line is too long or has a zero byte");
+        raise_status(panel, FAILED);
+    }
     return 1;
 }
 
@@ -422,18 +382,48 @@ static void answer_line(struct panel *panel, char *line)
         press_key(panel, name);
 }
 
-int main(void)
+static void answer_lines(struct panel *panel)
 {
-    static struct panel panel; /* nothing is loaded, and the profile is strict */
     char line[LINE_MOST + 1];
     int is_terminal = isatty(STDIN_FILENO);
-    while (!panel.is_ended) {
+    while (!panel->is_ended) {
         if (is_terminal)
             printf("panel> ");
         fflush(stdout); /* whoever drives the panel waits for the answer */
-        if (!read_line(line))
+        if (!read_line(panel, line))
             break;
-        answer_line(&panel, line);
+        answer_line(panel, line);
     }
-    return ferror(stdin) || fflush(stdout) || ferror(stdout);
+    if (ferror(stdin))
+        raise_status(panel, FAILED);
+}
+
+/* Loads, shows and judges one file. */
+static void answer_file(struct panel *panel, const char *name, const char *profile)
+{
+    panel->argument = profile ? profile : "strict";
+    press_profile(panel);
+    panel->argument = name;
+    if (panel->status == FINE)
+        press_input(panel);
+    if (!panel->is_loaded)
+        return;
+    press_stream(panel);
+    press_commit(panel);
+}
+
+int main(int count, char **words)
+{
+    static struct panel panel; /* nothing is loaded, and the profile is strict */
+    if (count > 3) {
+        fputs("usage: panel [FILE [strict|compat]]\n", stderr);
+        return FAILED;
+    }
+    if (count > 1)
+        answer_file(&panel, words[1], count > 2 ? words[2] : NULL);
+    else
+        answer_lines(&panel);
+    if (fflush(stdout) || ferror(stdout))
+        raise_status(&panel, FAILED);
+    return panel.status;
 }

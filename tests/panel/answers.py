@@ -27,13 +27,20 @@ REFUSALS = {
 def refusal(number, figures):
     words, *names = REFUSALS[number]
     assert len(names) == len(figures)
-    return " ".join(['number=%d words="%s"' % (number, words)] + ["%s=%d" % pair for pair in zip(names, figures)])
+    shown = ["%s=0x%06x" % pair if pair[0] == "marks" else "%s=%d" % pair for pair in zip(names, figures)]
+    return " ".join(['number=%d words="%s"' % (number, words)] + shown)
 
 
 def refused_verdict(profile, number, figures):
-    first, second = (tuple(figures) + (0, 0))[:2]
-    form = 'verdict refused profile=%s number=%d first=%d second=%d words="%s"'
-    return [form % (profile, number, first, second, REFUSALS[number][0])]
+    return ["verdict refused profile=%s %s" % (profile, refusal(number, figures))]
+
+
+def status_of(lines):
+    """The exit status that goes with answers: 2 after a line that wasn't understood or a file that couldn't be loaded, 1 after
+    a refusal."""
+    starts = {"error stream": 1, "error": 2, "class non-emdf": 1, "class malformed": 1, "verdict refused": 1}
+    found = [next((starts[start] for start in starts if line.startswith(start)), 0) for line in lines.splitlines()]
+    return max(found, default=0)
 
 
 class Unread:
@@ -108,7 +115,7 @@ def payload_lines(place, payload, places):
         "  settings " + " ".join(present),
         "  spans " + " ".join(spans),
         "  ruler " + ruler(places),
-        "  body %s bytes=%d first=%s" % ("moved" if places[3] % 8 else "aligned", len(body), shown(body)),
+        "  body %s bytes=%d first=%s" % ("unaligned" if places[3] % 8 else "aligned", len(body), shown(body)),
     ]
 
 
@@ -150,7 +157,7 @@ def answers(session, files):
 
 # What is said of a file that can't be loaded, by its name.
 REASONS = {
-    "too-long": "error input: longer than 65539 bytes, which no carrier is; nothing is loaded",
-    "missing": "error input: No such file or directory; nothing is loaded",
-    ".": "error input: Is a directory; nothing is loaded",
+    "too-long": "error input too-long: longer than 65539 bytes, which no carrier is; nothing is loaded",
+    "missing": "error input missing: No such file or directory; nothing is loaded",
+    ".": "error input .: Is a directory; nothing is loaded",
 }

@@ -11,7 +11,7 @@ import subprocess
 import sys
 import tempfile
 
-from answers import answers
+from answers import answers, status_of
 from carriers import FILES, TOO_LONG, random_carrier
 
 HERE = pathlib.Path(__file__).resolve().parent
@@ -83,21 +83,23 @@ def run_readme(command, folder):
     return run(["sh", "-eu"], script, folder)
 
 
-def unnamed_refusals():
-    """The numbers of emdf.h for which the panel has no words, by any of a number's names."""
-    entries = re.findall(r"^ +(EMDF_\w+) = (\d+),?", (ROOT / "include/emdf.h").read_text().split("};")[0], re.M)
-    panel = (ROOT / "examples/panel/panel.c").read_text()
-    assert ("EMDF_SCRATCH_TOO_SHORT", "19") in entries
-    named = {number for name, number in entries if "{%s, \"" % name in panel}
-    return sorted({int(number) for name, number in entries if name != "EMDF_ACCEPTED" and number not in named})
+def file_runs(files):
+    """Arguments, and what is written on both outputs."""
+    for name, profile in (("b", None), ("compat", "compat"), ("compat", "strict"), ("a-and-a-byte", "compat"), ("padding-set", None)):
+        session = "PROFILE %s\nINPUT %s\nSTREAM\nCOMMIT\n" % (profile or "strict", name)
+        yield [name] + ([profile] if profile else []), answers(session, files), ""
+    yield ["missing"], "profile strict\nerror input missing: No such file or directory; nothing is loaded\n", ""
+    yield ["b", "lenient"], "error profile: strict or compat\n", ""
+    yield ["b", "strict", "more"], "", "usage: panel [FILE [strict|compat]]\n"
 
 
 def results(command, folder, files):
     for name, session, expected in sessions(files):
-        yield name, run(command, session, folder), (expected, "", 0)
+        yield name, run(command, session, folder), (expected, "", status_of(expected))
+    for words, expected, error in file_runs(files):
+        yield "panel " + " ".join(words), run(command + words, "", folder), (expected, error, 2 if error else status_of(expected))
     yield "prompt at a terminal", run_at_terminal(command, folder), ("panel> profile compat\npanel> ", "", 0)
     yield "the README's example", run_readme(command, folder), (readme_example()[1], "", 0)
-    yield "words for every refusal of emdf.h", unnamed_refusals(), []
 
 
 def first_difference(got, wanted):
@@ -119,7 +121,7 @@ def check(title, command):
                 passed += 1
             else:
                 failed += 1
-                print("panel, %s: %s: %s" % (title, name, first_difference(got, wanted) if wanted else got))
+                print("panel, %s: %s: %s" % (title, name, first_difference(got, wanted)))
     print("panel, %s: %d passed, %d failed" % (title, passed, failed))
     return 1 if failed else 0
 
