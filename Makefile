@@ -1,22 +1,21 @@
-# make test        every test: the proofs, must-fail edits and stored runs, the comparison with the Rust original, the runs of emdfcheck, jocverdict, emdfedit and the panel
+# make test        every test: the proofs, must-fail edits and stored runs, the comparison with the Rust original, the runs of emdfcheck, emdf and the panel
 # make emdfcheck   proves and builds target/bin/emdfcheck
-# make jocverdict  proves and builds target/bin/jocverdict
-# make emdfedit    proves and builds target/bin/emdfedit
-# make bitfields   proves and builds target/bin/bitfields
 # make lib         proves and builds $(LIBRARY), for include/emdf.h
+# make emdf        builds target/bin/emdf, a program in C that inspects and edits carriers, on the proved library
 # make panel       builds target/bin/panel, an example of a host in C, on the proved library
-# make install     puts header, library, emdf.pc and NOTICE under PREFIX
+# make install     puts headers, library, emdf.pc, the names, emdf with its man page and NOTICE under PREFIX
 # make long        the comparison with the Rust original at its long length
 # make bench       what the library's calls cost, beside the Rust original, and the aims reached
 # make fuzz        the library's calls fuzzed for a minute, after the fuzzer's self-check
 # make threads     the library's calls from eight threads
 # make stack       the stack that each call takes
-.PHONY: test emdfcheck jocverdict emdfedit bitfields lib panel install long bench fuzz threads stack
+.PHONY: test emdfcheck lib emdf panel install long bench fuzz threads stack
 # Two runs of rt would write the same target/.
 .NOTPARALLEL:
 
 LIBRARY = target/staticlib/libemdf_host.a
 CFLAGS = -O2
+COMPILE = $(CC) $(CFLAGS) -std=c99 -Wall -Wextra -pedantic -Iinclude
 PREFIX = /usr/local
 
 test:
@@ -25,33 +24,35 @@ test:
 emdfcheck:
 	@rt check emdfcheck
 
-jocverdict:
-	@rt check jocverdict
-
-emdfedit:
-	@rt check emdfedit
-
-bitfields:
-	@rt check bitfields
-
 lib:
 	@mkdir -p target
 	@rt staticlib emdf_host >target/lib.log 2>&1 || { cat target/lib.log; exit 1; }
 
+emdf: lib
+	@mkdir -p target/bin
+	@$(COMPILE) emdf/*.c names/emdf_names.c $(LIBRARY) -o target/bin/emdf
+
 panel: lib
 	@mkdir -p target/bin
-	@$(CC) $(CFLAGS) -std=c99 -Wall -Wextra -pedantic -Iinclude examples/panel/panel.c $(LIBRARY) -o target/bin/panel
+	@$(COMPILE) examples/panel/panel.c names/emdf_names.c $(LIBRARY) -o target/bin/panel
 
-# The library is installed as it was last built, so that no proof runs as root.
-install: $(LIBRARY)
-	@mkdir -p "$(DESTDIR)$(PREFIX)/include" "$(DESTDIR)$(PREFIX)/lib/pkgconfig" "$(DESTDIR)$(PREFIX)/share/doc/emdf"
-	@cp include/emdf.h "$(DESTDIR)$(PREFIX)/include/emdf.h"
+# The library and the program are installed as they were last built, so that no proof runs as root.
+install: $(LIBRARY) target/bin/emdf
+	@mkdir -p "$(DESTDIR)$(PREFIX)/bin" "$(DESTDIR)$(PREFIX)/include" "$(DESTDIR)$(PREFIX)/lib/pkgconfig"
+	@mkdir -p "$(DESTDIR)$(PREFIX)/share/doc/emdf" "$(DESTDIR)$(PREFIX)/share/emdf" "$(DESTDIR)$(PREFIX)/share/man/man1"
+	@cp target/bin/emdf "$(DESTDIR)$(PREFIX)/bin/emdf"
+	@cp include/emdf.h include/emdf_names.h "$(DESTDIR)$(PREFIX)/include/"
+	@cp names/emdf_names.c "$(DESTDIR)$(PREFIX)/share/emdf/emdf_names.c"
+	@cp emdf/emdf.1 "$(DESTDIR)$(PREFIX)/share/man/man1/emdf.1"
 	@cp $(LIBRARY) "$(DESTDIR)$(PREFIX)/lib/libemdf.a"
 	@sed 's|@PREFIX@|$(PREFIX)|' emdf.pc.in >"$(DESTDIR)$(PREFIX)/lib/pkgconfig/emdf.pc"
 	@cp NOTICE "$(DESTDIR)$(PREFIX)/share/doc/emdf/NOTICE"
 
 $(LIBRARY):
 	@$(MAKE) lib
+
+target/bin/emdf:
+	@$(MAKE) emdf
 
 long: lib
 	@tests/differential/run --long

@@ -5,13 +5,13 @@
 
 #include "program.h"
 
-static int say_refused(const char *about, uint32_t number, const uint8_t *answer)
+static int say_refused(const char *about, uint32_t number, const uint8_t *answer, const char *hint)
 {
     fputs("emdf: ", stderr);
     print_text(stderr, about);
     fputs(": refused, ", stderr);
     print_refusal(stderr, number, emdf_word(answer, 0), emdf_word(answer, 1));
-    fputc('\n', stderr);
+    fprintf(stderr, "%s\n", hint);
     return REFUSED;
 }
 
@@ -33,7 +33,7 @@ int command_body(char **words)
         return FAILED;
     number = emdf_move_body(input.bytes, input.length, (size_t)place, scratch, sizeof scratch, answer);
     if (number != EMDF_ACCEPTED)
-        return say_refused(input.name, number, answer);
+        return say_refused(input.name, number, answer, "");
     start = emdf_word(answer, EMDF_BODY_START_BIT);
     return save_file(out ? out : "-", start % 8 ? scratch : input.bytes + start / 8, (size_t)emdf_word(answer, EMDF_BODY_LENGTH));
 }
@@ -65,7 +65,7 @@ static int write_blank(const struct blank *blank, const char *out)
     uint32_t number = emdf_blank(blank->key, blank->primary.bytes, blank->primary.length, blank->secondary.bytes,
                                  blank->secondary.length, carrier, sizeof carrier, answer);
     if (number != EMDF_ACCEPTED)
-        return say_refused("blank", number, answer);
+        return say_refused("blank", number, answer, number == EMDF_NOT_WRITABLE ? PROTECTION_HINT : "");
     return save_file(out ? out : "-", carrier, (size_t)emdf_word(answer, EMDF_WRITTEN_LENGTH));
 }
 

@@ -234,9 +234,25 @@ static void print_edit(const struct edit *edit)
 {
     enum { WORD_SHOWN = 40 };
     size_t i;
-    for (i = 0; i < edit->count; i++)
-        fprintf(stderr, "%s%.*s%s", i ? " " : "", (int)WORD_SHOWN, edit->words[i],
-                strlen(edit->words[i]) > WORD_SHOWN ? ".." : "");
+    for (i = 0; i < edit->count; i++) {
+        char word[WORD_SHOWN + 1];
+        int length = snprintf(word, sizeof word, "%s", edit->words[i]);
+        fputs(i ? " " : "", stderr);
+        print_text(stderr, word);
+        fputs(length > WORD_SHOWN ? ".." : "", stderr);
+    }
+}
+
+/* What makes contents writable, as far as the edit touches it. */
+static const char *find_hint(const struct edit *edit, uint32_t number)
+{
+    if (number != EMDF_NOT_WRITABLE)
+        return "";
+    if (!strcmp(edit->words[0], "protection"))
+        return PROTECTION_HINT;
+    if (!strcmp(edit->words[0], "insert") && !edit->id)
+        return "; an id is 1 or more";
+    return "; emdf(1) says under SETTINGS what can";
 }
 
 /* A refusal is the file's fault where it comes from reading it, else the edit's. */
@@ -252,7 +268,7 @@ static int say_refused(const struct carriers *c, const struct edit *edit, size_t
     }
     fputs(": refused, ", stderr);
     print_refusal(stderr, number, emdf_word(c->answer, 0), emdf_word(c->answer, 1));
-    fputs(number == EMDF_NOT_WRITABLE ? "; emdf(1) says under SETTINGS what can\n" : "\n", stderr);
+    fprintf(stderr, "%s\n", find_hint(edit, number));
     return REFUSED;
 }
 

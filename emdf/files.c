@@ -183,11 +183,14 @@ static int replace_file(const char *path, const struct stat *old, const uint8_t 
 int save_file(const char *name, const uint8_t *bytes, size_t length)
 {
     struct stat old;
-    int is_there, is_saved;
+    int is_there, is_saved, failure;
     char *path;
     if (is_standard(name))
         return write_standard(bytes, length);
     is_there = !stat(name, &old);
+    failure = errno;
+    if (!is_there && !lstat(name, &old))
+        return complain(name, "a link that leads to no file: %s", strerror(failure));
     if (is_there && S_ISDIR(old.st_mode))
         return complain(name, "%s", strerror(EISDIR));
     if (is_there && !S_ISREG(old.st_mode))
@@ -195,6 +198,8 @@ int save_file(const char *name, const uint8_t *bytes, size_t length)
     if (is_there && access(name, W_OK))
         return complain(name, "%s", strerror(errno));
     path = realpath(name, NULL); /* a link stays a link */
+    if (is_there && !path)
+        return complain(name, "%s", strerror(errno));
     is_saved = replace_file(path ? path : name, is_there ? &old : NULL, bytes, length);
     free(path);
     return is_saved ? DONE : complain(name, "%s", strerror(errno));

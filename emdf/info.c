@@ -277,10 +277,12 @@ static int show_file(const char *name, int is_json)
 
 int command_info(char **words)
 {
-    int is_json = *words && !strcmp(*words, "--json"), status = DONE;
-    words += is_json;
-    if (*words && (*words)[0] == '-' && (*words)[1])
-        return usage_error("info", "no option %s", *words);
+    int is_json = 0, status = DONE;
+    for (; *words && (*words)[0] == '-' && (*words)[1]; words++) {
+        if (strcmp(*words, "--json"))
+            return usage_error("info", "no option %s", *words);
+        is_json = 1;
+    }
     if (!*words)
         return usage_error("info", "no file is named");
     for (; *words; words++) {

@@ -47,13 +47,16 @@ static void print_usage(FILE *out, const struct command *command)
 
 int usage_error(const char *name, const char *format, ...)
 {
+    char text[201]; /* a word may be long */
     va_list values;
+    int length;
     size_t i;
-    fprintf(stderr, "emdf: %s: ", name);
     va_start(values, format);
-    vfprintf(stderr, format, values);
+    length = vsnprintf(text, sizeof text, format, values);
     va_end(values);
-    fputc('\n', stderr);
+    fprintf(stderr, "emdf: %s: ", name);
+    print_text(stderr, text);
+    fputs(length >= (int)sizeof text ? "..\n" : "\n", stderr);
     for (i = 0; i < COMMAND_COUNT; i++)
         if (!strcmp(name, COMMANDS[i].name))
             print_usage(stderr, &COMMANDS[i]);

@@ -13,6 +13,9 @@ enum {
     FAILED = 2   /* usage, input or output */
 };
 
+/* After the refusal of a protection's length. */
+#define PROTECTION_HINT "; primary has 1, 4 or 16 bytes, secondary 0, 1, 4 or 16"
+
 enum {
     /* A carrier is 4 bytes and then the declared ones, which a number of 16 bits counts. */
     DECLARED_MOST = 65535,

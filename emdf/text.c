@@ -4,10 +4,22 @@
 
 #include "program.h"
 
+/* How many bytes the control character at text takes, in UTF-8; 0 where none stands there. */
+static size_t control_length(const unsigned char *text)
+{
+    if (text[0] < 0x20 || text[0] == 0x7f)
+        return 1;
+    return text[0] == 0xc2 && text[1] >= 0x80 && text[1] < 0xa0 ? 2 : 0;
+}
+
 void print_text(FILE *out, const char *text)
 {
-    for (; *text; text++)
-        fputc((unsigned char)*text < 0x20 || *text == 0x7f ? '?' : *text, out);
+    const unsigned char *at = (const unsigned char *)text;
+    while (*at) {
+        size_t length = control_length(at);
+        fputc(length ? '?' : *at, out);
+        at += length ? length : 1;
+    }
 }
 
 void print_count(uint64_t n, const char *noun)
@@ -79,8 +91,8 @@ void print_json_text(const char *text)
             printf("\\ufffd");
         else if (*at == '"' || *at == '\\')
             printf("\\%c", *at);
-        else if (*at < 0x20 || *at == 0x7f)
-            printf("\\u%04x", (unsigned)*at);
+        else if (control_length(at))
+            printf("\\u%04x", (unsigned)at[control_length(at) - 1]); /* c2 80 to c2 9f are U+0080 to U+009F */
         else
             fwrite(at, 1, length, stdout);
         at += length ? length : 1;

@@ -5,7 +5,7 @@ import subprocess
 import sys
 import time
 
-from writer import DISCARD, Writer, carrier
+from models.writer import DISCARD, Writer, carrier
 
 MOST = 65536
 CASES = []

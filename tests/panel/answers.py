@@ -1,31 +1,12 @@
 """What the panel is to answer of a file, by document 01. No code of the library or of the panel is used: spans come from
-the writer that wrote the carrier, verdicts from jocverdict's model, refusals are stated with the carriers that meet them."""
-from model import FIELDS, deviations, found
-from writer import Writer
-
-# The names that the panel gives to the ten settings, in the model's order.
-SETTINGS = ["sample_offset", "duration", "group_id", "codec_data_present", "discard_unknown_payload"] + [
-    "payload_frame_aligned", "create_duplicate", "remove_duplicate", "priority", "processing_allowed"]
-
-# Document 01's refusals: the panel's words, and the names of the figures that 01 has in brackets.
-REFUSALS = {
-    1: ("too few bytes", "needed", "available"),
-    2: ("no sync word", "actual"),
-    3: ("too few bits for a field", "requested", "remaining"),
-    6: ("a variable field has too many groups", "width", "limit"),
-    7: ("a field is above 2^64 - 1",),
-    8: ("a version other than 0", "version"),
-    9: ("reserved bits are not zero",),
-    10: ("the primary protection has the reserved length",),
-    11: ("more than 7 bits after the protection", "bits"),
-    12: ("padding is not zero",),
-    14: ("not one OAMD and one JOC payload", "oamd", "joc"),
-    15: ("the profile is not met", "marks", "deviations"),
-}
+the writer that wrote the carrier, verdicts from the model of the profile, refusals are stated with the carriers that meet them."""
+from models.profile import FIELDS, found, marks_word, verdict
+from models.refused import WORDS
+from models.writer import Writer
 
 
 def refusal(number, figures):
-    words, *names = REFUSALS[number]
+    words, *names = WORDS[number]
     assert len(names) == len(figures)
     shown = ["%s=0x%06x" % pair if pair[0] == "marks" else "%s=%d" % pair for pair in zip(names, figures)]
     return " ".join(['number=%d words="%s"' % (number, words)] + shown)
@@ -92,23 +73,16 @@ class Carrier:
         return lines
 
     def commit(self, profile):
-        found_at = {wanted: [k for k, payload in enumerate(self.payloads) if payload[0] == wanted] for wanted in (11, 14)}
-        counts = (len(found_at[11]), len(found_at[14]))
-        if counts != (1, 1):
-            return refused_verdict(profile, 14, counts)
-        oamd, joc = found_at[11][0], found_at[14][0]
-        marks = deviations(found(self.payloads[oamd][1]), found(self.payloads[joc][1]))
-        word = sum(2**mark for mark, _, _ in marks)
-        if marks and (profile == "strict" or not all(passes for _, _, passes in marks)):
-            return refused_verdict(profile, 15, (word, len(marks)))
+        is_ = verdict(profile, [payload[:2] for payload in self.payloads])
+        if is_.number:
+            return refused_verdict(profile, is_.number, is_.figures)
         form = "verdict accepted profile=%s oamd=%d joc=%d marks=0x%06x deviations=%d"
-        return [form % (profile, oamd, joc, word, len(marks))]
+        return [form % ((profile,) + is_.places + (marks_word(is_.deviations), len(is_.deviations)))]
 
 
 def payload_lines(place, payload, places):
     ident, config, body = payload
-    values = [found(config)[name] for name, _, _ in FIELDS]
-    present = ["%s=%d" % pair for pair in zip(SETTINGS, values) if pair[1] is not None]
+    present = ["%s=%d" % (title, found(config)[name]) for name, title, _ in FIELDS if found(config)[name] is not None]
     spans = ["%s=%d..%d" % span for span in zip(("id", "settings", "size", "body"), places, places[1:])]
     return [
         "payload %d id=%d" % (place, ident),

@@ -2,75 +2,12 @@
 import random
 
 from answers import Carrier, Unread
-from writer import DISCARD, Writer
+from models.profile import BARE, WANTED
+from models.refused import UNREAD, A
+from models.writer import DISCARD
 
-# As tables 55 and 56 want it.
-WANTED = {"group_id": 0, "codec": 1, "discard": 0, "aligned": 1, "create": 0, "remove": 0, "priority": 0, "processing": 0}
-# What producers were seen to leave out on OAMD.
-BARE = {"group_id": 0, "codec": 0, "discard": 0, "aligned": 0}
 # Every setting that can stand beside a sample offset; 4,196,351 is the longest duration.
 TIMED = {"sample_offset": 2047, "duration": 4196351, "group_id": 19, "codec": 1, "discard": 0, "priority": 31, "processing": 3}
-
-A = bytes.fromhex("58380003001294")
-
-
-def opened():
-    w = Writer()
-    w.start(0)
-    return w
-
-
-def payload_start():
-    """A carrier up to its first payload's settings."""
-    w = opened()
-    w.number(5, 1)
-    return w
-
-
-def ended(w):
-    w.end(b"\xa5", b"")
-    return w.carrier()
-
-
-def group_limit():
-    """A size of three groups, where two are allowed."""
-    w = payload_start()
-    w.config(DISCARD)
-    w.groups(8, [0, 0, 0])
-    return ended(w)
-
-
-def overflow():
-    """Key id 2^64."""
-    w = Writer()
-    w.start(2**64)
-    return ended(w)
-
-
-def version_three():
-    """Version 3 is the escape and a variable field of 0."""
-    w = Writer()
-    w.extended(2, 3)
-    w.extended(3, 0)
-    return ended(w)
-
-
-def reserved_bit():
-    """The zero bit after a sample offset is set."""
-    w = payload_start()
-    w.number(1, 1)
-    w.number(11, 0)
-    w.number(1, 1)
-    return ended(w)
-
-
-def reserved_length():
-    """Primary protection's code 0."""
-    w = opened()
-    w.end(b"", b"")
-    w.number(8, 0)
-    return w.carrier()
-
 
 # A body that fills a carrier: 5 bits before the payload, 5 + 5 + 18 of it, and 5 + 4 + 8 after it.
 LONGEST_BODY = bytes(i % 251 for i in range((8 * 65535 - 50) // 8))
@@ -83,9 +20,6 @@ FILES = {
     "b": Carrier([(1, DISCARD, b"\xc3")]),
     "b-empty-body": Carrier([(1, DISCARD, b"")]),
     "a-and-a-byte": Carrier([], more=b"\0"),
-    "a-declared-longer": Unread(bytes.fromhex("5838000400129400"), 11, 10),
-    "sync-word-alone": Unread(b"\x58\x38", 1, 4, 2),
-    "one-byte": Unread(b"\x58", 1, 4, 1),
     # Pairs of OAMD and JOC.
     "strict": Carrier([(11, WANTED, b"\x01\x02\x03"), (14, WANTED, bytes(range(20)))]),
     "turned": Carrier([(14, WANTED, b""), (1, DISCARD, b"\xff"), (11, WANTED, b"")]),
@@ -98,23 +32,13 @@ FILES = {
     "no-group-id": Carrier([(11, WANTED | {"group_id": None}, b""), (14, WANTED | {"group_id": None}, b"")]),
     # Every setting, large numbers, both protections.
     "large": Carrier([(2**64 - 1, TIMED, bytes(300)), (31, WANTED, b"\x80")], 2**64 - 1, b"\x11" * 16, b"\x22" * 4),
-    # Each refusal that a carrier can meet, in the order of the questions.
-    "empty": Unread(b"", 1, 4, 0),
-    "byte-missing": Unread(A[:-1], 1, 3, 2),
-    "other-sync-word": Unread(b"\x58\x39" + A[2:], 2, 0x5839),
-    "nothing-declared": Unread(bytes.fromhex("58380000"), 3, 2, 0),
-    "declared-shorter": Unread(bytes.fromhex("58380002001294"), 3, 8, 2),
-    "group-limit": Unread(group_limit(), 6, 8, 2),
-    "overflow": Unread(overflow(), 7),
-    "version-three": Unread(version_three(), 8, 3),
-    "reserved-bit": Unread(reserved_bit(), 9),
-    "reserved-length": Unread(reserved_length(), 10),
-    "padding-set": Unread(bytes.fromhex("58380003001295"), 12),
     # Lengths and counts.
     "longest": Carrier([(1, DISCARD, LONGEST_BODY)]),
     "many": Carrier([(1, DISCARD, b"\xc3")] * 510 + [(14, WANTED, b"\x0e"), (11, BARE, b"\x0b")]),
     "most": Carrier([(1, DISCARD, b"")] * MOST_PAYLOADS),
 }
+# Each refusal that a carrier can meet.
+FILES |= {name: Unread(*of_file) for name, of_file in UNREAD.items()}
 
 # Where document 01 prints the bytes, what was written has to be them.
 assert FILES["a"].data == A

@@ -1,5 +1,5 @@
 """Document 01's six edits on plain contents. No code or table of the library is used."""
-from writer import Writer
+from models.writer import Writer
 
 NAMES = ("sample_offset", "duration", "group_id", "codec", "discard", "aligned", "create", "remove", "priority", "processing")
 LENGTHS = (1, 4, 16)
@@ -78,18 +78,17 @@ def changed(contents, edit, *given):
     return Contents(key, payloads, primary, secondary)
 
 
-def answer(contents, edit, *given):
-    """What is written on both outputs."""
-    after = Contents(given[0], [], *given[1:]) if edit == "blank" else changed(contents, edit, *given)
+def refusal(after):
+    """The number that changed contents are refused with, or 0."""
     if after is None:
-        return refused("16: no such place")
+        return 16
     if not after.writable():
-        return refused("17: contents not writable")
-    w = after.writer()
-    if len(w.bits) > 8 * 65535:
-        return refused("18: declared length above 65535")
-    return w.carrier(), b""
+        return 17
+    return 18 if len(after.writer().bits) > 8 * 65535 else 0
 
 
-def refused(words):
-    return b"", b"refused %s\n" % words.encode()
+def step(contents, edit, *given):
+    """The contents that an edit leaves, and 0 or the refusal's number."""
+    after = changed(contents, edit, *given)
+    number = refusal(after)
+    return (contents if number else after), number

@@ -35,8 +35,7 @@ class Writer:
             self.variable(width, value - escape)
 
     def octets(self, values):
-        for value in values:
-            self.number(8, value)
+        self.bits += [value >> i & 1 for value in values for i in range(7, -1, -1)]
 
     def config(self, config):
         """The settings, by name; None is absent. One that the rule leaves out is not written."""
@@ -96,8 +95,7 @@ class Writer:
     def carrier(self):
         """The carrier's bytes, with zero bits to the last byte."""
         bits = self.bits + [0] * (-len(self.bits) % 8)
-        octets = (bits[i : i + 8] for i in range(0, len(bits), 8))
-        data = bytes(int("".join(map(str, octet)), 2) for octet in octets)
+        data = int("0" + "".join(map(str, bits)), 2).to_bytes(len(bits) // 8, "big")
         return b"\x58\x38" + len(data).to_bytes(2, "big") + data
 
 
