@@ -4,7 +4,7 @@
 # make emdf        builds target/bin/emdf, a program in C that inspects and edits carriers, on the proved library
 # make panel       builds target/bin/panel, an example of a host in C, on the proved library
 # make install     puts headers, library, emdf.pc, the names, emdf with its man page and NOTICE under PREFIX
-# make long        the comparison with the Rust original at its long length
+# make long        the comparison with the Rust original at its long length, and the panel on the longest carrier
 # make bench       what the library's calls cost, beside the Rust original, and the aims reached
 # make fuzz        the library's calls fuzzed for a minute, after the fuzzer's self-check
 # make threads     the library's calls from eight threads
@@ -56,6 +56,7 @@ target/bin/emdf:
 
 long: lib
 	@tests/differential/run --long
+	@tests/panel/run --long
 
 bench: lib
 	@tests/differential/run --bench

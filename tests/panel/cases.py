@@ -1,12 +1,11 @@
-"""Runs sessions through the panel, whose name and command are the arguments, and compares the answers with
+"""Runs sessions through the panel and compares the answers. The arguments are a title, how much is run (few: no long carrier;
+whole; long: the carrier of 27,592 payloads shown too) and the panel's command. Answers are compared with
 - the *.expected file beside each *.session, which is typed by hand for document-01 and commands, and
 - document 01 by answers.py, for each session that only loads files and asks of them; the stored files have to agree with it.
 With --write it writes the *.expected files that aren't typed by hand from answers.py; never from what a panel says."""
 import os
 import pathlib
 import pty
-import re
-import shlex
 import subprocess
 import sys
 import tempfile
@@ -15,7 +14,6 @@ from answers import answers, status_of
 from carriers import FILES, TOO_LONG, random_carrier
 
 HERE = pathlib.Path(__file__).resolve().parent
-ROOT = HERE.parent.parent
 # About the panel itself and not about carriers, so document 01 has no answers.
 BY_HAND_ALONE = {"commands"}
 BY_HAND = {"commands", "document-01"}
@@ -32,13 +30,19 @@ def stored_sessions():
         yield path.stem, path.read_text(), path.with_suffix(".expected")
 
 
-def sessions(files):
+# Carriers that are shown whole.
+SHOWN = {"few": [], "whole": ["many"], "long": ["many", "most"]}
+
+
+def sessions(files, size):
     """Name, session, answers. The long ones aren't stored."""
     for name, session, path in stored_sessions():
+        if size == "few" and name == "files":
+            continue
         yield name, session, path.read_text()
         if name not in BY_HAND_ALONE:
             yield name + ", by document 01", session, answers(session, files)
-    for name in ("many", "most"):
+    for name in SHOWN[size]:
         yield name + ", whole", ask_all([name]), answers(ask_all([name]), files)
     chosen = [name for name in files if name.startswith("random")]
     yield "random carriers", ask_all(chosen), answers(ask_all(chosen), files)
@@ -69,20 +73,6 @@ def run_at_terminal(command, folder):
     return done.stdout.decode(), done.stderr.decode(), done.returncode
 
 
-def readme_example():
-    """The README's commands without the building, and what it says that they print."""
-    section = (ROOT / "README.md").read_text().split("## A host in C\n")[1].split("\n## ")[0]
-    commands, printed = re.findall(r"(?:^    .*\n)+", section, re.M)
-    build, *rest = re.sub("^    ", "", commands, flags=re.M).splitlines(True)
-    assert build == "make panel\n"
-    return "".join(rest), re.sub("^    ", "", printed, flags=re.M)
-
-
-def run_readme(command, folder):
-    script = readme_example()[0].replace("target/bin/panel", shlex.join(command))
-    return run(["sh", "-eu"], script, folder)
-
-
 def file_runs(files):
     """Arguments, and what is written on both outputs."""
     for name, profile in (("b", None), ("compat", "compat"), ("compat", "strict"), ("a-and-a-byte", "compat"), ("padding-set", None)):
@@ -93,13 +83,12 @@ def file_runs(files):
     yield ["b", "strict", "more"], "", "usage: panel [FILE [strict|compat]]\n"
 
 
-def results(command, folder, files):
-    for name, session, expected in sessions(files):
+def results(command, folder, files, size):
+    for name, session, expected in sessions(files, size):
         yield name, run(command, session, folder), (expected, "", status_of(expected))
     for words, expected, error in file_runs(files):
         yield "panel " + " ".join(words), run(command + words, "", folder), (expected, error, 2 if error else status_of(expected))
     yield "prompt at a terminal", run_at_terminal(command, folder), ("panel> profile compat\npanel> ", "", 0)
-    yield "the README's example", run_readme(command, folder), (readme_example()[1], "", 0)
 
 
 def first_difference(got, wanted):
@@ -109,14 +98,14 @@ def first_difference(got, wanted):
     return "line %d: %.300r, not %.300r" % next((n, a, b) for n, (a, b) in pairs if a != b or not a)
 
 
-def check(title, command):
+def check(title, size, command):
     files = FILES | {"random-%d" % seed: random_carrier(seed) for seed in range(60)}
     passed = failed = 0
     with tempfile.TemporaryDirectory() as folder:
         for name, file in files.items():
             pathlib.Path(folder, name).write_bytes(file.data)
         pathlib.Path(folder, "too-long").write_bytes(TOO_LONG)
-        for name, got, wanted in results(command, folder, files):
+        for name, got, wanted in results(command, folder, files, size):
             if got == wanted:
                 passed += 1
             else:
@@ -133,4 +122,4 @@ def write():
     return 0
 
 
-sys.exit(write() if sys.argv[1:] == ["--write"] else check(sys.argv[1], sys.argv[2:]))
+sys.exit(write() if sys.argv[1:] == ["--write"] else check(sys.argv[1], sys.argv[2], sys.argv[3:]))
