@@ -51,7 +51,7 @@ def in_folder(files, mode=0o755):
     folder = tempfile.TemporaryDirectory()
     fill(folder.name, files)
     if not os.getuid():
-        for path in [folder.name] + [os.path.join(folder.name, name) for name in files]:
+        for path in [folder.name] + [os.path.join(folder.name, os.fsdecode(name)) for name in files]:
             os.chown(path, NOBODY, NOBODY)
     os.chmod(folder.name, mode)
     return folder
@@ -368,20 +368,29 @@ key ID|protection HEX HEX|sample_offset|duration|group_id|codec_data_present|dis
 create_duplicate|remove_duplicate|priority|processing_allowed|from=bare|from=profile""".replace("\n", "").split("|")
 
 
+def some_of_each(command):
+    """A case each of files that are read and written, and a name of every kind of character."""
+    for one in list(of_several())[:1] + list(of_standard_input())[2:]:
+        yield (one.name,) + try_case(command, one)
+    with in_folder({"in": B, "target": b"as it was"}) as folder:
+        os.symlink("target", os.path.join(folder, "out"))
+        got = run(command, ["edit", "in", "-o", "out", "drop", "0"], folder) + (standing(folder),)
+        yield "edit: OUT is a link", got, (b"", b"", 0, {"in": B, "target": A, "out": "link to target"})
+    with in_folder(dict.fromkeys(NAMES, A)) as folder:
+        out, err, status = run(command, ["info", "--json"] + [os.fsdecode(name) for name in NAMES], folder)
+        wanted = [in_json for _, in_json in NAMES.values()]
+        yield "names in JSON", ([json.loads(line)["file"] for line in out.decode().splitlines()], err, status), (wanted, b"", 0)
+
+
 def results(command, size):
     if size == "few":
-        groups = (in_order, links, names)
-        cases = list(of_several()) + list(of_standard_input())
-    else:
-        groups = (in_order, slowly, at_terminal, closed, on_full_device, on_full_disk, no_place, links, modes, pipes, names, helps)
-        cases = list(of_input()) + list(of_several()) + list(of_standard_input())
-    for one in cases:
+        yield from some_of_each(command)
+        return
+    for one in list(of_input()) + list(of_several()) + list(of_standard_input()):
         yield (one.name,) + try_case(command, one)
-    for group in groups:
+    for group in (in_order, slowly, at_terminal, closed, on_full_device, on_full_disk, no_place, links, modes, pipes, names, helps):
         yield from group(command)
     other = other_user()
-    if size == "few":
-        return
     if other is None:
         print("emdf: no user whom modes stop: skipped")
     else:
