@@ -21,7 +21,7 @@ def small_bodies():
 
 
 def random_bodies():
-    return editing.bodies({name: file for name, file in list(carriers.RANDOM.items())[:40]})
+    return editing.bodies({name: file for name, file in list(carriers.RANDOM.items())[:60]}, False)
 
 
 def unreads_alone():
@@ -41,11 +41,13 @@ MANY = (
     random_bodies,
     unreads_alone,
 )
+# Of which a run of few takes one, as of each of the others above.
+FEW = (editing.readings, editing.random_changes, editing.random_chains, usage.of_settings, random_bodies)
 
 
 def single_cases(size):
     if size == "few":
-        for kind in KINDS + MANY:
+        for kind in KINDS + FEW:
             yield list(kind())[-1]
         return
     for kind in KINDS:

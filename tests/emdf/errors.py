@@ -129,12 +129,20 @@ def slowly(command):
 
 def at_terminal(command):
     ours, theirs = pty.openpty()
+    os.write(ours, b"\x04" * len(READERS))  # an end of input for each that would read it
     said = b"emdf: standard input: is a terminal; name a file, or use a pipe\n"
     with in_folder({"in": B}) as folder:
         for words in READERS:
             yield words[0] + ": standard input a terminal", run(command, reading(words, "-"), folder, stdin=theirs), (b"", said, 2)
-        said = b"emdf: standard output: is a terminal; use -o OUT, or a pipe\n"
-        os.set_blocking(ours, False)
+    os.close(theirs)
+    os.close(ours)
+
+
+def to_terminal(command):
+    ours, theirs = pty.openpty()
+    os.set_blocking(ours, False)
+    said = b"emdf: standard output: is a terminal; use -o OUT, or a pipe\n"
+    with in_folder({"in": B}) as folder:
         for name, words, _ in WRITERS:
             words = words + ["-o", "-"]
             got = run(command, words, folder, stdout=theirs)
@@ -339,7 +347,7 @@ def names(command):
             first = run(command, ["info", word], folder)[0].splitlines()[0]
             yield "name %r, info" % name, first, shown + b": parsed: one carrier of 7 bytes"
             for asked in ("info", "verdict"):
-                out = run(command, [asked, "--json", word], folder)[0].decode()
+                out = run(command, [asked, "--json", word], folder)[0].decode(errors="surrogateescape")
                 controls = [c for c in out if unicodedata.category(c) == "Cc"]
                 yield "name %r, %s in JSON" % (name, asked), (json.loads(out)["file"], controls), (in_json, ["\n"])
             got = run(command, ["body", word, "0"], folder)
@@ -379,7 +387,12 @@ def some_of_each(command):
     with in_folder(dict.fromkeys(NAMES, A)) as folder:
         out, err, status = run(command, ["info", "--json"] + [os.fsdecode(name) for name in NAMES], folder)
         wanted = [in_json for _, in_json in NAMES.values()]
-        yield "names in JSON", ([json.loads(line)["file"] for line in out.decode().splitlines()], err, status), (wanted, b"", 0)
+        came = [json.loads(line)["file"] for line in out.decode(errors="surrogateescape").splitlines()]
+        yield "names in JSON", (came, err, status), (wanted, b"", 0)
+
+
+GROUPS = (in_order, slowly, at_terminal, to_terminal, closed, on_full_device, on_full_disk) + (
+    no_place, links, modes, pipes, names, helps)
 
 
 def results(command, size):
@@ -388,7 +401,7 @@ def results(command, size):
         return
     for one in list(of_input()) + list(of_several()) + list(of_standard_input()):
         yield (one.name,) + try_case(command, one)
-    for group in (in_order, slowly, at_terminal, closed, on_full_device, on_full_disk, no_place, links, modes, pipes, names, helps):
+    for group in GROUPS:
         yield from group(command)
     other = other_user()
     if other is None:

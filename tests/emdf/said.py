@@ -34,7 +34,7 @@ def blocks(text):
 def ask(command, words, folder, files, is_json):
     """What came for each file, in their order, then standard error and exit status."""
     out, err, status = run(command, words + ["--json"] * is_json + list(files), folder)
-    text = out.decode()
+    text = out.decode(errors="surrogateescape")
     return ([parsed(line) for line in text.splitlines()] if is_json else blocks(text)), err, status
 
 
