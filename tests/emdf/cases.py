@@ -10,37 +10,50 @@ import said
 import usage
 from harness import try_case
 
-# Of the cases that differ in numbers alone, a thinned run takes one in so many.
-ONE_IN = 8
-# A few take this many of each kind.
-FEW = 2
-
-NUMBERS_ALONE = (editing.presences, editing.protections, editing.random_edits, editing.random_chains, editing.limits)
-KINDS = (editing.by_hand, editing.readings, editing.places, editing.partly, editing.spellings, editing.random_changes)
-
-
-def thinned(cases, size):
-    return list(cases)[:: {"whole": 1, "thinned": ONE_IN}[size]]
+# Each kind in which the cases differ in numbers alone, of which a thinned run takes one in so many.
+ONE_IN = 20
+# Kinds of which each case has its own reason.
+KINDS = (editing.by_hand, editing.places, editing.partly, editing.spellings, editing.lengths, said.by_hand)
 
 
 def small_bodies():
-    names = [name for name, file in carriers.SMALL.items() if file.payloads]
-    return editing.bodies({name: carriers.SMALL[name] for name in names})
+    return editing.bodies({name: file for name, file in carriers.SMALL.items() if file.payloads})
+
+
+def random_bodies():
+    return editing.bodies({name: file for name, file in list(carriers.RANDOM.items())[:60]}, False)
+
+
+def unreads_alone():
+    return said.alone(carriers.UNREADS)
+
+
+MANY = (
+    editing.readings,
+    editing.limits,
+    editing.presences,
+    editing.protections,
+    editing.random_edits,
+    editing.random_changes,
+    editing.random_chains,
+    usage.cases,
+    small_bodies,
+    random_bodies,
+    unreads_alone,
+)
+# Of which a run of few takes one, as of each of the others above.
+FEW = (editing.readings, editing.random_changes, editing.random_chains, usage.of_settings, random_bodies)
 
 
 def single_cases(size):
     if size == "few":
-        for kind in KINDS + NUMBERS_ALONE + (small_bodies, said.by_hand, usage.of_edit, usage.of_settings):
-            cases = list(kind())
-            yield from cases[:: max(1, len(cases) // FEW)][:FEW]
+        for kind in KINDS + FEW:
+            yield list(kind())[-1]
         return
-    for kind in KINDS + (editing.lengths, small_bodies, said.by_hand):
+    for kind in KINDS:
         yield from kind()
-    for kind in NUMBERS_ALONE:
-        yield from thinned(kind(), size)
-    yield from said.alone(carriers.UNREADS)
-    yield from thinned(usage.cases(), size)
-    yield from thinned(editing.bodies(carriers.RANDOM), size)
+    for kind in MANY:
+        yield from list(kind())[:: 1 if size == "whole" else ONE_IN]
 
 
 def asked(size):
@@ -49,15 +62,17 @@ def asked(size):
     if size == "few":
         return small, small
     many = small | carriers.LONG | carriers.RANDOM
-    return many | (carriers.heavy() if size == "whole" else {}), many | carriers.PAIRS
+    if size == "thinned":
+        return many, many | dict(list(carriers.PAIRS.items())[::ONE_IN])
+    return many | carriers.heavy(), many | carriers.PAIRS
 
 
 def results(command, size):
     for one in single_cases(size):
         yield (one.name,) + try_case(command, one)
     for_info, for_verdict = asked(size)
-    yield from said.info(command, for_info)
-    yield from said.verdicts(command, for_verdict)
+    yield from said.info(command, for_info, size == "few")
+    yield from said.verdicts(command, for_verdict, size == "few")
     yield from errors.results(command, size)
 
 

@@ -51,7 +51,7 @@ def in_folder(files, mode=0o755):
     folder = tempfile.TemporaryDirectory()
     fill(folder.name, files)
     if not os.getuid():
-        for path in [folder.name] + [os.path.join(folder.name, name) for name in files]:
+        for path in [folder.name] + [os.path.join(folder.name, os.fsdecode(name)) for name in files]:
             os.chown(path, NOBODY, NOBODY)
     os.chmod(folder.name, mode)
     return folder
@@ -129,12 +129,20 @@ def slowly(command):
 
 def at_terminal(command):
     ours, theirs = pty.openpty()
+    os.write(ours, b"\x04" * len(READERS))  # an end of input for each that would read it
     said = b"emdf: standard input: is a terminal; name a file, or use a pipe\n"
     with in_folder({"in": B}) as folder:
         for words in READERS:
             yield words[0] + ": standard input a terminal", run(command, reading(words, "-"), folder, stdin=theirs), (b"", said, 2)
-        said = b"emdf: standard output: is a terminal; use -o OUT, or a pipe\n"
-        os.set_blocking(ours, False)
+    os.close(theirs)
+    os.close(ours)
+
+
+def to_terminal(command):
+    ours, theirs = pty.openpty()
+    os.set_blocking(ours, False)
+    said = b"emdf: standard output: is a terminal; use -o OUT, or a pipe\n"
+    with in_folder({"in": B}) as folder:
         for name, words, _ in WRITERS:
             words = words + ["-o", "-"]
             got = run(command, words, folder, stdout=theirs)
@@ -339,7 +347,7 @@ def names(command):
             first = run(command, ["info", word], folder)[0].splitlines()[0]
             yield "name %r, info" % name, first, shown + b": parsed: one carrier of 7 bytes"
             for asked in ("info", "verdict"):
-                out = run(command, [asked, "--json", word], folder)[0].decode()
+                out = run(command, [asked, "--json", word], folder)[0].decode(errors="surrogateescape")
                 controls = [c for c in out if unicodedata.category(c) == "Cc"]
                 yield "name %r, %s in JSON" % (name, asked), (json.loads(out)["file"], controls), (in_json, ["\n"])
             got = run(command, ["body", word, "0"], folder)
@@ -368,20 +376,34 @@ key ID|protection HEX HEX|sample_offset|duration|group_id|codec_data_present|dis
 create_duplicate|remove_duplicate|priority|processing_allowed|from=bare|from=profile""".replace("\n", "").split("|")
 
 
+def some_of_each(command):
+    """A case each of files that are read and written, and a name of every kind of character."""
+    for one in list(of_several())[:1] + list(of_standard_input())[2:]:
+        yield (one.name,) + try_case(command, one)
+    with in_folder({"in": B, "target": b"as it was"}) as folder:
+        os.symlink("target", os.path.join(folder, "out"))
+        got = run(command, ["edit", "in", "-o", "out", "drop", "0"], folder) + (standing(folder),)
+        yield "edit: OUT is a link", got, (b"", b"", 0, {"in": B, "target": A, "out": "link to target"})
+    with in_folder(dict.fromkeys(NAMES, A)) as folder:
+        out, err, status = run(command, ["info", "--json"] + [os.fsdecode(name) for name in NAMES], folder)
+        wanted = [in_json for _, in_json in NAMES.values()]
+        came = [json.loads(line)["file"] for line in out.decode(errors="surrogateescape").splitlines()]
+        yield "names in JSON", (came, err, status), (wanted, b"", 0)
+
+
+GROUPS = (in_order, slowly, at_terminal, to_terminal, closed, on_full_device, on_full_disk) + (
+    no_place, links, modes, pipes, names, helps)
+
+
 def results(command, size):
     if size == "few":
-        groups = (in_order, links, names)
-        cases = list(of_several()) + list(of_standard_input())
-    else:
-        groups = (in_order, slowly, at_terminal, closed, on_full_device, on_full_disk, no_place, links, modes, pipes, names, helps)
-        cases = list(of_input()) + list(of_several()) + list(of_standard_input())
-    for one in cases:
+        yield from some_of_each(command)
+        return
+    for one in list(of_input()) + list(of_several()) + list(of_standard_input()):
         yield (one.name,) + try_case(command, one)
-    for group in groups:
+    for group in GROUPS:
         yield from group(command)
     other = other_user()
-    if size == "few":
-        return
     if other is None:
         print("emdf: no user whom modes stop: skipped")
     else:

@@ -108,6 +108,7 @@ class Carrier:
         self.padding = w.place()
         self.carrier = w.carrier()
         self.data = self.carrier + more
+        self.verdicts = {profile: verdict(profile, [payload[:2] for payload in payloads]) for profile in ("strict", "compat")}
 
     def spans(self):
         """The container's, besides its payloads'."""
@@ -145,7 +146,7 @@ class Carrier:
         lines = ["%s: %s" % (name, self.class_text()), self.container_line()] + self.ruler_lines()
         for place, payload in enumerate(self.payloads):
             lines += payload_lines(place, payload, self.places[place])
-        return lines + ["  " + verdict_text(profile, self.verdict(profile)) for profile in ("strict", "compat")]
+        return lines + ["  " + verdict_text(*judged) for judged in self.verdicts.items()]
 
     def info_json(self, name):
         before, after = self.spans()
@@ -160,23 +161,20 @@ class Carrier:
         }
         said = {"file": name, "bytes": len(self.data), "class": "trailing-data" if self.more else "parsed"}
         payloads = [payload_json(place, payload, self.places[place]) for place, payload in enumerate(self.payloads)]
-        verdicts = {profile: verdict_json(profile, self.verdict(profile)) for profile in ("strict", "compat")}
+        verdicts = {profile: verdict_json(profile, given) for profile, given in self.verdicts.items()}
         return said | {"container": container, "payloads": payloads} | verdicts
 
-    def verdict(self, profile):
-        return verdict(profile, [payload[:2] for payload in self.payloads])
-
     def verdict_status(self, profile):
-        return 1 if self.verdict(profile).number else 0
+        return 1 if self.verdicts[profile].number else 0
 
     def verdict_lines(self, name, profile):
-        given = self.verdict(profile)
+        given = self.verdicts[profile]
         after = "; %s after the carrier" % counted(len(self.more), "byte") if self.more else ""
         line = "%s: %s%s" % (name, verdict_text(profile, given), after)
         return [line] + [deviation_text(mark) for mark in given.deviations or []]
 
     def verdict_json(self, name, profile):
-        said = verdict_json(profile, self.verdict(profile))
+        said = verdict_json(profile, self.verdicts[profile])
         return {"file": name, "bytes": len(self.data), "trailing_bytes": len(self.more), "verdict": said}
 
 
@@ -197,11 +195,12 @@ def payload_lines(place, payload, starts):
 
 def payload_json(place, payload, starts):
     ident, config, body = payload
+    settings = found(config)
     return {
         "place": place,
         "id": ident,
         "name": NAMES.get(ident),
-        "settings": {title: found(config)[name] for name, title, _ in FIELDS},
+        "settings": {title: settings[name] for name, title, _ in FIELDS},
         "spans": dict(zip(PARTS, map(list, zip(starts, starts[1:])))),
         "size": len(body),
         "first": body[:16].hex(),

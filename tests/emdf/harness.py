@@ -36,7 +36,10 @@ def run(command, words, folder, data=b"", **options):
     if "stdin" not in options:
         options["input"] = data
     outputs = {"stdout": subprocess.PIPE, "stderr": subprocess.PIPE}
-    done = subprocess.run(command + words, timeout=120, cwd=folder, **(outputs | options))
+    try:
+        done = subprocess.run(command + words, timeout=60, cwd=folder, **(outputs | options))
+    except subprocess.TimeoutExpired:
+        return b"", b"", "still running after 60 seconds"
     return done.stdout or b"", done.stderr or b"", done.returncode
 
 

@@ -31,45 +31,49 @@ def blocks(text):
     return [block.splitlines() for block in re.split(r"^(?=\S)", text, flags=re.M) if block]
 
 
-def ask(command, words, files, is_json):
+def ask(command, words, folder, files, is_json):
     """What came for each file, in their order, then standard error and exit status."""
-    with tempfile.TemporaryDirectory() as folder:
-        fill(folder, {name: file.data for name, file in files.items()})
-        out, err, status = run(command, words + list(files), folder)
-    text = out.decode()
+    out, err, status = run(command, words + ["--json"] * is_json + list(files), folder)
+    text = out.decode(errors="surrogateescape")
     return ([parsed(line) for line in text.splitlines()] if is_json else blocks(text)), err, status
 
 
-def compare(command, title, words, files, status, wanted, is_json):
-    """Yields name, what came, what was to come."""
-    came, err, came_status = ask(command, words + ["--json"] * is_json, files, is_json)
-    title += ", JSON" if is_json else ""
-    for name, of_file in zip_longest(files, came):
-        yield "%s: %s" % (title, name), of_file, wanted(files[name])(name) if name in files else None
-    yield "%s: %d files" % (title, len(files)), (err, came_status), (b"", status)
+def compare(command, folder, words, files, status, lines, objects):
+    """Text and JSON: yields name, what came, what was to come. lines and objects say it of a file and its name."""
+    for is_json, wanted in ((False, lines), (True, objects)):
+        came, err, came_status = ask(command, words, folder, files, is_json)
+        title = " ".join(words) + (", JSON" if is_json else "")
+        for name, of_file in zip_longest(files, came):
+            yield "%s: %s" % (title, name), of_file, wanted(files[name], name) if name in files else None
+        yield "%s: %d files" % (title, len(files)), (err, came_status), (b"", status)
 
 
-def by_status(files, status_of):
-    for status in (0, 1):
-        group = {name: file for name, file in files.items() if status_of(file) == status}
-        if group:
-            yield status, group
+def folder_of(files):
+    folder = tempfile.TemporaryDirectory()
+    fill(folder.name, {name: file.data for name, file in files.items()})
+    return folder
 
 
-def info(command, files):
-    for status, group in by_status(files, lambda file: file.info_status):
-        yield from compare(command, "info", ["info"], group, status, lambda file: file.info_lines, False)
-        yield from compare(command, "info", ["info"], group, status, lambda file: file.info_json, True)
+def grouped(files, status_of, is_one_run):
+    """Files of one exit status, or all of them: then the largest is to come."""
+    groups = [{name: file for name, file in files.items() if status_of(file) == status} for status in (0, 1)]
+    return [(1, files)] if is_one_run else list(enumerate(groups))
 
 
-def verdicts(command, files):
-    for profile in PROFILES:
-        words = ["verdict", "--" + profile]
-        lines = lambda file: lambda name: file.verdict_lines(name, profile)
-        objects = lambda file: lambda name: file.verdict_json(name, profile)
-        for status, group in by_status(files, lambda file: file.verdict_status(profile)):
-            yield from compare(command, "verdict by " + profile, words, group, status, lines, False)
-            yield from compare(command, "verdict by " + profile, words, group, status, objects, True)
+def info(command, files, is_one_run):
+    with folder_of(files) as folder:
+        for status, group in grouped(files, lambda file: file.info_status, is_one_run):
+            lines, objects = (lambda file, name: file.info_lines(name)), (lambda file, name: file.info_json(name))
+            yield from compare(command, folder, ["info"], group, status, lines, objects)
+
+
+def verdicts(command, files, is_one_run):
+    with folder_of(files) as folder:
+        for profile in PROFILES[is_one_run:]:
+            lines = lambda file, name: file.verdict_lines(name, profile)
+            objects = lambda file, name: file.verdict_json(name, profile)
+            for status, group in grouped(files, lambda file: file.verdict_status(profile), is_one_run):
+                yield from compare(command, folder, ["verdict", "--" + profile], group, status, lines, objects)
 
 
 def alone(files):

@@ -14,6 +14,7 @@ FIELDS = [
     ("priority", "priority", 0),
     ("processing", "processing_allowed", 0),
 ]
+ABSENT = dict.fromkeys(name for name, _, _ in FIELDS)
 
 # As tables 55 and 56 want it.
 WANTED = {"group_id": 0, "codec": 1, "discard": 0, "aligned": 1, "create": 0, "remove": 0, "priority": 0, "processing": 0}
@@ -32,7 +33,7 @@ Verdict = namedtuple("Verdict", "number figures places deviations")
 
 def found(config):
     """The ten settings that a reading finds: those that the rule leaves out are absent."""
-    s = dict.fromkeys(name for name, _, _ in FIELDS) | config
+    s = ABSENT | config
     timed = s["sample_offset"] is not None
     if s["discard"] or timed:
         s["aligned"] = None

@@ -2,17 +2,17 @@
 
 
 class Writer:
-    """Bits of a carrier, most significant first. The sync word and the length are the first 32."""
+    """Bits of a carrier as digits, most significant first. The sync word and the length are the first 32."""
 
     def __init__(self):
-        self.bits = []
+        self.bits = bytearray()
 
     def place(self):
         return 32 + len(self.bits)
 
     def number(self, width, value):
         assert 0 <= value < 2**width
-        self.bits += [value >> i & 1 for i in range(width - 1, -1, -1)]
+        self.bits += format(value, "0%db" % width).encode()
 
     def groups(self, width, values):
         """A variable field of these groups: more is set on all but the last."""
@@ -35,7 +35,8 @@ class Writer:
             self.variable(width, value - escape)
 
     def octets(self, values):
-        self.bits += [value >> i & 1 for value in values for i in range(7, -1, -1)]
+        if values:
+            self.number(8 * len(values), int.from_bytes(values, "big"))
 
     def config(self, config):
         """The settings, by name; None is absent. One that the rule leaves out is not written."""
@@ -94,8 +95,8 @@ class Writer:
 
     def carrier(self):
         """The carrier's bytes, with zero bits to the last byte."""
-        bits = self.bits + [0] * (-len(self.bits) % 8)
-        data = int("0" + "".join(map(str, bits)), 2).to_bytes(len(bits) // 8, "big")
+        bits = self.bits + b"0" * (-len(self.bits) % 8)
+        data = int(bits, 2).to_bytes(len(bits) // 8, "big")
         return b"\x58\x38" + len(data).to_bytes(2, "big") + data
 
 
