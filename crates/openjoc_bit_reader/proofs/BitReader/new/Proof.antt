@@ -35,22 +35,22 @@ use denote.Triple.Entry.{onEntry}
 use denote.Triple.Spec.{tripleOf}
 use denote.Triple.Walked.{says, Stays, stay-none-slice, walkOf, goes-none-slice, ends-at, walked}
 use denote.Exit.{yes}
 use Rattle.openjoc_bitio.specs.Cursor.{wholeSlice}
 use Rattle.openjoc_bitio.specs.declared.BitCursor.{BitCursor}
-use Rattle.openjoc_bitio.specs.declared.BitReader.{BitReader}
-use Rattle.openjoc_bitio.proofs.Walk.{asks, hears, by-walk}
+use Rattle.openjoc_bit_reader.specs.declared.BitReader.{BitReader}
+use Rattle.openjoc_bit_reader.proofs.Walk.{asks, hears, by-walk}
 use Rattle.openjoc_bitio.proofs.BitCursor as Q
 use Rattle.openjoc_bitio.proofs.BitCursor.Laws as Q′
-use Rattle.openjoc_bitio.proofs.BitReader as T
-use Rattle.openjoc_bitio.proofs.BitReader.Laws as T′
+use Rattle.openjoc_bit_reader.proofs.BitReader as T
+use Rattle.openjoc_bit_reader.proofs.BitReader.Laws as T′
 use Rattle.openjoc_bitio.proofs.BitCursor.new as step
 use Rattle.openjoc_bitio.proofs.BitCursor.new.Symbol as step-def
 use Rattle.openjoc_bitio.proofs.BitCursor.new.Symbol.{name as #step}
 use Rattle.openjoc_bitio.proofs.BitCursor.new.Met as step-thm
-use Rattle.openjoc_bitio.proofs.BitReader.new.Key.{name as #this}
-use Rattle.openjoc_bitio.proofs.BitReader.new as this
-use Rattle.openjoc_bitio.proofs.BitReader.new.Statement as stated
-use Rattle.openjoc_bitio.proofs.BitReader.new.Code as code
+use Rattle.openjoc_bit_reader.proofs.BitReader.new.Key.{name as #this}
+use Rattle.openjoc_bit_reader.proofs.BitReader.new as this
+use Rattle.openjoc_bit_reader.proofs.BitReader.new.Statement as stated
+use Rattle.openjoc_bit_reader.proofs.BitReader.new.Code as code
 
 abbrev stayed : Stays (this.ended .signature .params) (this.ended .kept)
 stayed = (stay-none-slice (0 ∷ []) tt (plain (λ _. u8)) yes, tt)

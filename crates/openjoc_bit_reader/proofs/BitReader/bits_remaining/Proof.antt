@@ -34,20 +34,20 @@ use denote.Triple.Entry.{onEntry}
 use denote.Triple.Spec.{tripleOf}
 use denote.Triple.Walked.{says, Stays, stay-none-ref, walkOf, goes-none-ref, ends-at, walked}
 use denote.Exit.{yes}
-use Rattle.openjoc_bitio.specs.Reader.{remaining}
-use Rattle.openjoc_bitio.proofs.Held.{α, row, mach, bytesOf, Own, Parts, copied, Lent, lfts, shares, lent, pointer, passed, behind, Tokens, Token}
-use Rattle.openjoc_bitio.proofs.Walk.{asks, hears, by-walk}
+use Rattle.openjoc_bit_reader.specs.Reader.{remaining}
+use Rattle.openjoc_bit_reader.proofs.Held.{α, row, mach, bytesOf, Own, Parts, copied, Lent, lfts, shares, lent, pointer, passed, behind, Tokens, Token}
+use Rattle.openjoc_bit_reader.proofs.Walk.{asks, hears, by-walk}
 use Rattle.openjoc_bitio.proofs.BitCursor.Laws as Q′
-use Rattle.openjoc_bitio.proofs.BitReader as T
-use Rattle.openjoc_bitio.proofs.BitReader.Laws as T′
+use Rattle.openjoc_bit_reader.proofs.BitReader as T
+use Rattle.openjoc_bit_reader.proofs.BitReader.Laws as T′
 use Rattle.openjoc_bitio.proofs.BitCursor.bits_remaining as step
 use Rattle.openjoc_bitio.proofs.BitCursor.bits_remaining.Symbol as step-def
 use Rattle.openjoc_bitio.proofs.BitCursor.bits_remaining.Symbol.{name as #step}
 use Rattle.openjoc_bitio.proofs.BitCursor.bits_remaining.Met as step-thm
-use Rattle.openjoc_bitio.proofs.BitReader.bits_remaining.Key.{name as #this}
-use Rattle.openjoc_bitio.proofs.BitReader.bits_remaining as this
-use Rattle.openjoc_bitio.proofs.BitReader.bits_remaining.Statement as stated
-use Rattle.openjoc_bitio.proofs.BitReader.bits_remaining.Code as code
+use Rattle.openjoc_bit_reader.proofs.BitReader.bits_remaining.Key.{name as #this}
+use Rattle.openjoc_bit_reader.proofs.BitReader.bits_remaining as this
+use Rattle.openjoc_bit_reader.proofs.BitReader.bits_remaining.Statement as stated
+use Rattle.openjoc_bit_reader.proofs.BitReader.bits_remaining.Code as code
 
 abbrev stayed : Stays (this.ended .signature .params) (this.ended .kept)
 stayed = (stay-none-ref (0 ∷ []) tt behind yes, tt)

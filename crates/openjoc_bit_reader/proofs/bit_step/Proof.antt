@@ -1,9 +1,9 @@
 -- The result of a read of one bit and the cursor after it: by what the cursor's call answers. Assumes nothing.
 use mathlib.Core.Path.{ap, _∙_, sym}
 use borrow.Author.Needs.{needs}
-use Rattle.openjoc_bitio.specs.Reader.{bitStepOf, bitStep}
-use Rattle.openjoc_bitio.proofs.bit_step.Statement.{statement}
-use Rattle.openjoc_bitio.proofs.bit_step.Tie as tie
+use Rattle.openjoc_bit_reader.specs.Reader.{bitStepOf, bitStep}
+use Rattle.openjoc_bit_reader.proofs.bit_step.Statement.{statement}
+use Rattle.openjoc_bit_reader.proofs.bit_step.Tie as tie
 
 read-bit-requires : tie.Need-read-bit-requires
 read-bit-requires c κs = search needs

@@ -46,14 +46,14 @@ use denote.Triple.End.{Kepts, Fins}
 use denote.Triple.Entry.{onEntry}
 use denote.Triple.Spec.{Meets, tripleOf}
 use denote.Triple.Walked.{Stays, stay-ref, fitsOf, hasOf, onExit, walkOf, ends-at, AllGo, goes-ref, walked}
-use Rattle.openjoc_bitio.specs.Reader.{moved}
+use Rattle.openjoc_bit_reader.specs.Reader.{moved}
 use Rattle.openjoc_bitio.specs.declared.BitCursor.{BitCursor}
-use Rattle.openjoc_bitio.proofs.Held.{α, row, mach, bytesOf, Own, Parts, copied, Lent, lfts, shares, lent, pointer, passed, behind, Tokens, Token, Open, Shut, opens-reader, closes-reader}
-use Rattle.openjoc_bitio.proofs.Walk.{asks, hears, by-walk}
+use Rattle.openjoc_bit_reader.proofs.Held.{α, row, mach, bytesOf, Own, Parts, copied, Lent, lfts, shares, lent, pointer, passed, behind, Tokens, Token, Open, Shut, opens-reader, closes-reader}
+use Rattle.openjoc_bit_reader.proofs.Walk.{asks, hears, by-walk}
 use Rattle.openjoc_bitio.proofs.BitCursor as Q
 use Rattle.openjoc_bitio.proofs.BitCursor.Laws as Q′
-use Rattle.openjoc_bitio.proofs.BitReader as T
-use Rattle.openjoc_bitio.proofs.BitReader.Laws as T′
+use Rattle.openjoc_bit_reader.proofs.BitReader as T
+use Rattle.openjoc_bit_reader.proofs.BitReader.Laws as T′
 
 -- ---- the covered function: its result is the struct P, it takes ss beside the bytes and the cursor, and it gives g of the three
 pub record Stepper : Type 2 where

@@ -32,11 +32,11 @@ use denote.Struct.Struct.{layout}
 use denote.Struct.Laws as LL
 use denote.Triple.Clauses.{Clauses}
 use denote.Triple.Walked.{stay-none, goes-none}
 use Rattle.openjoc_bitio.specs.declared.BitCursor.{BitCursor}
-use Rattle.openjoc_bitio.proofs.Held.{row, Lent, lfts, lent, pointer, Tokens}
-use Rattle.openjoc_bitio.proofs.Stepped.{Stepper, slice, stepping, steps, Method, promised, Claim, Walking, Theorem, ends, meets, numbers, number}
+use Rattle.openjoc_bit_reader.proofs.Held.{row, Lent, lfts, lent, pointer, Tokens}
+use Rattle.openjoc_bit_reader.proofs.Stepped.{Stepper, slice, stepping, steps, Method, promised, Claim, Walking, Theorem, ends, meets, numbers, number}
 use Rattle.openjoc_bitio.proofs.BitCursor as Q
 use Rattle.openjoc_bitio.proofs.BitCursor.Laws as Q′
 
 module _ (s : En.Declared) (fl : LL.FLaws (En.field s)) (pl : LL.Plain (En.field s)) (ν : Sym) (D : Type 0) (result : D → s .D) (cursor : D → BitCursor) where
   abbrev parts : D → Denots (rows (En.field s ∷ Q.the-field ∷ []))

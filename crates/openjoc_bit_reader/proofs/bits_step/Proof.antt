@@ -1,9 +1,9 @@
 -- The result of a read and the cursor after it: by what the cursor's call answers. Assumes nothing.
 use mathlib.Core.Path.{ap, _∙_, sym}
 use borrow.Author.Needs.{needs}
-use Rattle.openjoc_bitio.specs.Reader.{bitsStepOf, bitsStep}
-use Rattle.openjoc_bitio.proofs.bits_step.Statement.{statement}
-use Rattle.openjoc_bitio.proofs.bits_step.Tie as tie
+use Rattle.openjoc_bit_reader.specs.Reader.{bitsStepOf, bitsStep}
+use Rattle.openjoc_bit_reader.proofs.bits_step.Statement.{statement}
+use Rattle.openjoc_bit_reader.proofs.bits_step.Tie as tie
 
 read-bits-requires : tie.Need-read-bits-requires
 read-bits-requires c κs = search needs

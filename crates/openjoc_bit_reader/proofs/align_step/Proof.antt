@@ -1,9 +1,9 @@
 -- The result of a move to the next byte and the cursor after it: by what the cursor's call answers. Assumes nothing.
 use mathlib.Core.Path.{ap, _∙_, sym}
 use borrow.Author.Needs.{needs}
-use Rattle.openjoc_bitio.specs.Reader.{alignStepOf, alignStep}
-use Rattle.openjoc_bitio.proofs.align_step.Statement.{statement}
-use Rattle.openjoc_bitio.proofs.align_step.Tie as tie
+use Rattle.openjoc_bit_reader.specs.Reader.{alignStepOf, alignStep}
+use Rattle.openjoc_bit_reader.proofs.align_step.Statement.{statement}
+use Rattle.openjoc_bit_reader.proofs.align_step.Tie as tie
 
 byte-align-requires : tie.Need-byte-align-requires
 byte-align-requires c κs = search needs

@@ -2,25 +2,25 @@
 use Prim.Native.Nat.{ℕ}
 use mathlib.Core.List.{List}
 use denote.Ref.{RefT, now}
 use Rattle.openjoc_bitio.specs.Cursor.{wholeSlice, bitsRemaining, readBits, readBit, takeBits, byteAlign}
 use Rattle.openjoc_bitio.specs.declared.BitCursor.{BitCursor}
 use Rattle.openjoc_bitio.specs.declared.BitsAnswer.{BitsAnswer}
 use Rattle.openjoc_bitio.specs.declared.BitsAnswer.the-variants as BitsAnswer
 use Rattle.openjoc_bitio.specs.declared.BitAnswer.{BitAnswer}
 use Rattle.openjoc_bitio.specs.declared.BitAnswer.the-variants as BitAnswer
 use Rattle.openjoc_bitio.specs.declared.WindowAnswer.{WindowAnswer}
 use Rattle.openjoc_bitio.specs.declared.WindowAnswer.the-variants as WindowAnswer
 use Rattle.openjoc_bitio.specs.declared.AlignAnswer.{AlignAnswer}
 use Rattle.openjoc_bitio.specs.declared.AlignAnswer.the-variants as AlignAnswer
-use Rattle.openjoc_bitio.specs.declared.BitsResult.the-variants as BitsResult
-use Rattle.openjoc_bitio.specs.declared.BitResult.the-variants as BitResult
-use Rattle.openjoc_bitio.specs.declared.MoveResult.the-variants as MoveResult
-use Rattle.openjoc_bitio.specs.declared.BitsStep.{BitsStep}
-use Rattle.openjoc_bitio.specs.declared.BitStep.{BitStep}
-use Rattle.openjoc_bitio.specs.declared.WindowStep.{WindowStep}
-use Rattle.openjoc_bitio.specs.declared.AlignStep.{AlignStep}
-use Rattle.openjoc_bitio.specs.declared.BitReader.{BitReader}
-use Rattle.openjoc_bitio.specs.declared.BitWindow.{BitWindow}
+use Rattle.openjoc_bit_reader.specs.declared.BitsResult.the-variants as BitsResult
+use Rattle.openjoc_bit_reader.specs.declared.BitResult.the-variants as BitResult
+use Rattle.openjoc_bit_reader.specs.declared.MoveResult.the-variants as MoveResult
+use Rattle.openjoc_bit_reader.specs.declared.BitsStep.{BitsStep}
+use Rattle.openjoc_bit_reader.specs.declared.BitStep.{BitStep}
+use Rattle.openjoc_bit_reader.specs.declared.WindowStep.{WindowStep}
+use Rattle.openjoc_bit_reader.specs.declared.AlignStep.{AlignStep}
+use Rattle.openjoc_bit_reader.specs.declared.BitReader.{BitReader}
+use Rattle.openjoc_bit_reader.specs.declared.BitWindow.{BitWindow}
 
 -- ---- an answer as a result and the cursor after it; a refusal leaves the cursor c
 

@@ -30,13 +30,13 @@ use denote.Steps.{opens, closes, owned, peeks}
 use denote.Struct.Laws as LL
 use denote.Struct.Rest.{all-own, own-open, own-put}
 use denote.Struct.Steps.{spelt}
-use Rattle.openjoc_bitio.specs.Reader.{moved}
+use Rattle.openjoc_bit_reader.specs.Reader.{moved}
 use Rattle.openjoc_bitio.specs.declared.BitCursor.{BitCursor}
-use Rattle.openjoc_bitio.specs.declared.BitReader.{BitReader}
+use Rattle.openjoc_bit_reader.specs.declared.BitReader.{BitReader}
 use Rattle.openjoc_bitio.proofs.BitCursor as Q
 use Rattle.openjoc_bitio.proofs.BitCursor.Laws as Q′
-use Rattle.openjoc_bitio.proofs.BitReader as T
-use Rattle.openjoc_bitio.proofs.BitReader.Laws as T′
+use Rattle.openjoc_bit_reader.proofs.BitReader as T
+use Rattle.openjoc_bit_reader.proofs.BitReader.Laws as T′
 
 -- the lifetime 'a of its bytes, which a method's signature names second
 abbrev pub α : Lft → NamedLft

@@ -29,29 +29,29 @@ use denote.Enum.Laws as EL
 use denote.Struct.Laws as LL
 use denote.Struct.Rest.{own-shut}
 use denote.Triple.Walked.{stay-none, goes-none}
-use Rattle.openjoc_bitio.specs.Reader.{moved, windowStep, windowTaken}
-use Rattle.openjoc_bitio.specs.declared.BitReader.{BitReader}
-use Rattle.openjoc_bitio.specs.declared.BitWindow.{BitWindow}
-use Rattle.openjoc_bitio.specs.declared.WindowStep.{WindowStep}
-use Rattle.openjoc_bitio.proofs.Held.{α, row, mach, Own, again, fits, Lent, lent, pointer, Tokens}
-use Rattle.openjoc_bitio.proofs.Stepped.{Stepper, steps, Method, Claim, Walking, ends, meets, numbers, number}
+use Rattle.openjoc_bit_reader.specs.Reader.{moved, windowStep, windowTaken}
+use Rattle.openjoc_bit_reader.specs.declared.BitReader.{BitReader}
+use Rattle.openjoc_bit_reader.specs.declared.BitWindow.{BitWindow}
+use Rattle.openjoc_bit_reader.specs.declared.WindowStep.{WindowStep}
+use Rattle.openjoc_bit_reader.proofs.Held.{α, row, mach, Own, again, fits, Lent, lent, pointer, Tokens}
+use Rattle.openjoc_bit_reader.proofs.Stepped.{Stepper, steps, Method, Claim, Walking, ends, meets, numbers, number}
 use Rattle.openjoc_bitio.proofs.BitCursor as Q
 use Rattle.openjoc_bitio.proofs.BitCursor.Laws as Q′
-use Rattle.openjoc_bitio.proofs.BitReader as T
-use Rattle.openjoc_bitio.proofs.BitReader.Laws as T′
-use Rattle.openjoc_bitio.proofs.MoveResult as S
-use Rattle.openjoc_bitio.proofs.MoveResult.Laws as S′
-use Rattle.openjoc_bitio.proofs.BitWindow as X
-use Rattle.openjoc_bitio.proofs.BitWindow.Laws as X′
-use Rattle.openjoc_bitio.proofs.WindowStep as P
-use Rattle.openjoc_bitio.proofs.WindowStep.Laws as P′
-use Rattle.openjoc_bitio.proofs.window_step.Symbol as step-def
-use Rattle.openjoc_bitio.proofs.window_step.Symbol.{name as #step}
-use Rattle.openjoc_bitio.proofs.window_step.Met as step-thm
-use Rattle.openjoc_bitio.proofs.BitReader.take_bits.Key.{name as #this}
-use Rattle.openjoc_bitio.proofs.BitReader.take_bits as this
-use Rattle.openjoc_bitio.proofs.BitReader.take_bits.Statement as stated
-use Rattle.openjoc_bitio.proofs.BitReader.take_bits.Code as code
+use Rattle.openjoc_bit_reader.proofs.BitReader as T
+use Rattle.openjoc_bit_reader.proofs.BitReader.Laws as T′
+use Rattle.openjoc_bit_reader.proofs.MoveResult as S
+use Rattle.openjoc_bit_reader.proofs.MoveResult.Laws as S′
+use Rattle.openjoc_bit_reader.proofs.BitWindow as X
+use Rattle.openjoc_bit_reader.proofs.BitWindow.Laws as X′
+use Rattle.openjoc_bit_reader.proofs.WindowStep as P
+use Rattle.openjoc_bit_reader.proofs.WindowStep.Laws as P′
+use Rattle.openjoc_bit_reader.proofs.window_step.Symbol as step-def
+use Rattle.openjoc_bit_reader.proofs.window_step.Symbol.{name as #step}
+use Rattle.openjoc_bit_reader.proofs.window_step.Met as step-thm
+use Rattle.openjoc_bit_reader.proofs.BitReader.take_bits.Key.{name as #this}
+use Rattle.openjoc_bit_reader.proofs.BitReader.take_bits as this
+use Rattle.openjoc_bit_reader.proofs.BitReader.take_bits.Statement as stated
+use Rattle.openjoc_bit_reader.proofs.BitReader.take_bits.Code as code
 
 abbrev step : Stepper
 step = record { P = P.the-type; L = P′.the-laws; cursor = λ r. r .cursor; ss = numbers w64; ks = (yes, tt); g = λ _ t c n. windowStep t c (n .0) }
@@ -106,4 +106,4 @@ unfolding code.routine
 take-bits-spec 𝓤 H 𝓜 𝓖 𝓡 =
     let W = givenOf 𝓤 H 𝓜 𝓖 in
     meets method 𝓤 (this.clauses 𝓤 H (𝓖 .A) (𝓜 .mem) (𝓡 .run)) H step #step code.function 𝓜 𝓖 𝓡 (goes-none 𝓤 H (𝓖 .A) W 2 (λ _. usize) yes (λ κs x f. refl), tt) (λ _. (uint-vals w64, tt)) (λ _. (uint-tells w64, tt)) (walk 𝓤 H (𝓖 .A) W (𝓜 .mem) (𝓡 .run))
-    code.env #this (code.unfolded 𝓤 H 𝓜 𝓡) step-def.routine code.calls-openjoc-bitio·window-step (step-thm.met 𝓤 H 𝓜 𝓖 𝓡)
+    code.env #this (code.unfolded 𝓤 H 𝓜 𝓡) step-def.routine code.calls-openjoc-bit-reader·window-step (step-thm.met 𝓤 H 𝓜 𝓖 𝓡)

@@ -1,9 +1,9 @@
 -- The result of a window, the window and the cursor after it: by what the cursor's call answers. Assumes nothing.
 use mathlib.Core.Path.{ap, _∙_, sym}
 use borrow.Author.Needs.{needs}
-use Rattle.openjoc_bitio.specs.Reader.{windowStepOf, windowStep}
-use Rattle.openjoc_bitio.proofs.window_step.Statement.{statement}
-use Rattle.openjoc_bitio.proofs.window_step.Tie as tie
+use Rattle.openjoc_bit_reader.specs.Reader.{windowStepOf, windowStep}
+use Rattle.openjoc_bit_reader.proofs.window_step.Statement.{statement}
+use Rattle.openjoc_bit_reader.proofs.window_step.Tie as tie
 
 take-bits-requires : tie.Need-take-bits-requires
 take-bits-requires c κs = search needs
