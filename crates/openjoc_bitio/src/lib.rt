@@ -289,13 +289,22 @@ fn octet_bits(s: &[u8], q: usize, t: usize) -> u64
     (wide(s[i]) >> below) % pow2(t)
 }
 
-fn least(a: usize, b: usize) -> usize
+// The octet that starts phase bits into the byte a and ends in the byte b.
+pub fn octet_in(a: u8, b: u8, phase: usize) -> u8
+    requires { ⌜ phase < 8 ⌝ }
+    ensures { λ r. ⌜ r ≡ (a * 256 + b) / 2 ^ (8 - phase) % 256 ⌝ }
+{
+    let pair = (a as u16) * 256 + b as u16;
+    ((pair >> (8 - phase)) % 256) as u8
+}
+
+pub fn least(a: usize, b: usize) -> usize
     ensures { λ r. ⌜ r ≡ min a b ⌝ }
 {
     if a < b { a } else { b }
 }
 
-fn pow2(t: usize) -> u64
+pub fn pow2(t: usize) -> u64
     requires { ⌜ t < 64 ⌝ }
     ensures { λ r. ⌜ r ≡ 2 ^ t ⌝ }
 {
