@@ -3,7 +3,7 @@ use mathlib.Core.Path.{ap, _∙_}
 use Rattle.emdf_answers.specs.Form.{words}
 use Rattle.emdf_answers.specs.Carriers.{classReturned, classListed}
 use Rattle.emdf_answers.proofs.Carriers.{class-returned, class-listed}
-use Rattle.emdf_host.proofs.Stored.{words-whole}
+use Rattle.emdf_rows.proofs.Stored.{words-whole}
 use Rattle.emdf_host.proofs.emdf_classify.Statement.{statement}
 use Rattle.emdf_host.proofs.emdf_classify.Tie as tie
 

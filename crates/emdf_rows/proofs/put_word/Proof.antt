@@ -1,9 +1,9 @@
 use borrow.Author.Needs.{needs}
 use native.Mathlib.Omega.{arith}
 use lib.ListN.{length-set}
-use Rattle.emdf_host.proofs.Stored.{octets-stored}
-use Rattle.emdf_host.proofs.put_word.Statement.{statement}
-use Rattle.emdf_host.proofs.put_word.Tie as tie
+use Rattle.emdf_rows.proofs.Stored.{octets-stored}
+use Rattle.emdf_rows.proofs.put_word.Statement.{statement}
+use Rattle.emdf_rows.proofs.put_word.Tie as tie
 
 swap-octets-requires : tie.Need-swap-octets-requires
 swap-octets-requires c κs = search needs

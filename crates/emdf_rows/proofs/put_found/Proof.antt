@@ -2,9 +2,9 @@ use borrow.Author.Needs.{needs}
 use mathlib.Core.Path.{sym, _∙_}
 use mathlib.Core.Logic.{⊎-elim}
 use native.Mathlib.Omega.{arith}
-use Rattle.emdf_host.proofs.Carriers.{same-payload}
-use Rattle.emdf_host.proofs.put_found.Statement.{statement}
-use Rattle.emdf_host.proofs.put_found.Tie as tie
+use Rattle.emdf_rows.proofs.Rows.{same-payload}
+use Rattle.emdf_rows.proofs.put_found.Statement.{statement}
+use Rattle.emdf_rows.proofs.put_found.Tie as tie
 
 next-payload-requires : tie.Need-next-payload-requires
 next-payload-requires c κs = search needs

@@ -1,7 +1,7 @@
 use borrow.Author.Needs.{needs}
-use Rattle.emdf_host.proofs.Carriers.{record-stored}
-use Rattle.emdf_host.proofs.put_record.Statement.{statement}
-use Rattle.emdf_host.proofs.put_record.Tie as tie
+use Rattle.emdf_rows.proofs.Rows.{record-stored}
+use Rattle.emdf_rows.proofs.put_record.Statement.{statement}
+use Rattle.emdf_rows.proofs.put_record.Tie as tie
 
 put-word-requires : tie.Need-put-word-requires
 put-word-requires c κs = search needs

@@ -9,9 +9,9 @@ use Rattle.emdf_format.specs.Reading.{Found}
 use Rattle.emdf_format.specs.Calls.{recordsOf}
 use Rattle.openjoc_emdf.proofs.Walk.{Listed}
 use Rattle.emdf_answers.specs.Carriers.{rowsBytes}
-use Rattle.emdf_host.proofs.Carriers.{Left, left-all, left-payload, left-step, left-none}
-use Rattle.emdf_host.proofs.put_rows.Statement.{statement}
-use Rattle.emdf_host.proofs.put_rows.Tie as tie
+use Rattle.emdf_rows.proofs.Rows.{Left, left-all, left-payload, left-step, left-none}
+use Rattle.emdf_rows.proofs.put_rows.Statement.{statement}
+use Rattle.emdf_rows.proofs.put_rows.Tie as tie
 
 abbrev Inv-loop : tie.InvT-loop
 Inv-loop table₀ s count at₀ place₀ table at place = (place ≤ count) × (length table ≡ length table₀) × ((xs : List Found) → Listed s at₀ xs → length xs ≡ count → Left s at place count table (sets table₀ 0 (rowsBytes (recordsOf xs))))

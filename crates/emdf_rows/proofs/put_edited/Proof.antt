@@ -1,9 +1,9 @@
 use borrow.Author.Needs.{needs}
 use mathlib.Core.Path.{ap, _∙_}
 use Rattle.emdf_answers.specs.Form.{words}
-use Rattle.emdf_host.proofs.Edits.{edited-words}
-use Rattle.emdf_host.proofs.put_edited.Statement.{statement}
-use Rattle.emdf_host.proofs.put_edited.Tie as tie
+use Rattle.emdf_rows.proofs.Edits.{edited-words}
+use Rattle.emdf_rows.proofs.put_edited.Statement.{statement}
+use Rattle.emdf_rows.proofs.put_edited.Tie as tie
 
 edited-figures-requires : tie.Need-edited-figures-requires
 edited-figures-requires c κs = search needs

@@ -1,6 +1,6 @@
 use borrow.Author.Needs.{needs}
-use Rattle.emdf_host.proofs.put_refusal.Statement.{statement}
-use Rattle.emdf_host.proofs.put_refusal.Tie as tie
+use Rattle.emdf_rows.proofs.put_refusal.Statement.{statement}
+use Rattle.emdf_rows.proofs.put_refusal.Tie as tie
 
 figure-words-requires : tie.Need-figure-words-requires
 figure-words-requires c κs = search needs

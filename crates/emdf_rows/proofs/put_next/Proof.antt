@@ -2,9 +2,9 @@ use borrow.Author.Needs.{needs}
 use Prim.Native.Nat.{_^_, _≤_, _<_}
 use native.Mathlib.Omega.{arith}
 use Rattle.emdf_settings.proofs.Compact.{head-most, size-most, value-most}
-use Rattle.emdf_host.proofs.Carriers.{same-payload, compact-found}
-use Rattle.emdf_host.proofs.put_next.Statement.{statement}
-use Rattle.emdf_host.proofs.put_next.Tie as tie
+use Rattle.emdf_rows.proofs.Rows.{same-payload, compact-found}
+use Rattle.emdf_rows.proofs.put_next.Statement.{statement}
+use Rattle.emdf_rows.proofs.put_next.Tie as tie
 
 -- so that no sum is too large
 bounds : (c : tie.After-size-value) → (c .before .before .before .before .before .head-length .result ≤ 57) × (c .before .before .size-length .result ≤ 18) × (c .size-value .result < 2 ^ 17)

@@ -1,9 +1,9 @@
 use borrow.Author.Needs.{needs}
 use mathlib.Core.Path.{ap, _∙_}
 use Rattle.emdf_answers.specs.Form.{words}
-use Rattle.emdf_host.proofs.Carriers.{move-words}
-use Rattle.emdf_host.proofs.put_moved.Statement.{statement}
-use Rattle.emdf_host.proofs.put_moved.Tie as tie
+use Rattle.emdf_rows.proofs.Rows.{move-words}
+use Rattle.emdf_rows.proofs.put_moved.Statement.{statement}
+use Rattle.emdf_rows.proofs.put_moved.Tie as tie
 
 move-figures-requires : tie.Need-move-figures-requires
 move-figures-requires c κs = search needs

@@ -8,7 +8,7 @@ use Rattle.emdf_format.specs.declared.EditAnswer.the-variants.{Written, Refused
 use Rattle.emdf_answers.specs.Bits.{figured}
 use Rattle.emdf_answers.specs.Edits.{editedNumber, editedWords}
 use Rattle.emdf_answers.specs.declared.Figures.{Figures}
-use Rattle.emdf_host.proofs.Carriers.{length-padded, two-words}
+use Rattle.emdf_rows.proofs.Rows.{length-padded, two-words}
 
 length-edited : (a : EditAnswer) → length (editedWords a) ≡ 2
 unfolding editedWords

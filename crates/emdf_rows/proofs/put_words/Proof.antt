@@ -6,9 +6,9 @@ use lib.ListN.{length, drop}
 use denote.Ref.{now}
 use lib.Seq.{sets, length-sets}
 use Rattle.emdf_answers.specs.Form.{words}
-use Rattle.emdf_host.proofs.Stored.{word-stored, words-done}
-use Rattle.emdf_host.proofs.put_words.Statement.{statement}
-use Rattle.emdf_host.proofs.put_words.Tie as tie
+use Rattle.emdf_rows.proofs.Stored.{word-stored, words-done}
+use Rattle.emdf_rows.proofs.put_words.Statement.{statement}
+use Rattle.emdf_rows.proofs.put_words.Tie as tie
 
 abbrev Inv-loop : tie.InvT-loop
 Inv-loop out₀ at values i₀ out i = (i ≤ length values) × (length out ≡ length out₀) × (sets out (at + 8 * i) (words (drop i values)) ≡ sets out₀ at (words values))

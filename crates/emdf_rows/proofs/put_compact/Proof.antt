@@ -1,7 +1,7 @@
 use borrow.Author.Needs.{needs}
 use mathlib.Core.Path.{_∙_}
-use Rattle.emdf_host.proofs.put_compact.Statement.{statement}
-use Rattle.emdf_host.proofs.put_compact.Tie as tie
+use Rattle.emdf_rows.proofs.put_compact.Statement.{statement}
+use Rattle.emdf_rows.proofs.put_compact.Tie as tie
 
 compact-config-requires : tie.Need-compact-config-requires
 compact-config-requires c κs = search needs
