@@ -2,20 +2,20 @@ use borrow.Author.Needs.{needs}
 use native.Mathlib.Omega.{arith}
 use mathlib.Core.Path.{sym}
 use lib.Seq.{length-take-le}
-use Rattle.emdf_replay.proofs.bits.outcome.Statement.{statement}
-use Rattle.emdf_replay.proofs.bits.outcome.Tie as tie
+use Rattle.emdf_replay.proofs.line_outcome.Statement.{statement}
+use Rattle.emdf_replay.proofs.line_outcome.Tie as tie
 
 returns : tie.Need-returns
 returns c = search needs
-
-returns-2 : tie.Need-returns-2
-returns-2 c = search needs
 
 shared-slice-read-index : tie.Need-shared-slice-read-index
 shared-slice-read-index c = search needs
 
 index-requires : tie.Need-index-requires
 index-requires c κs = search needs
+
+returns-2 : tie.Need-returns-2
+returns-2 c = search needs
 
 returns-3 : tie.Need-returns-3
 returns-3 c = search needs
@@ -41,41 +41,38 @@ put-bytes-requires c κs = search needs
 returns-4 : tie.Need-returns-4
 returns-4 c = search needs
 
-shared-slice-read-call-outcome : tie.Need-shared-slice-read-call-outcome
-shared-slice-read-call-outcome c = search needs
-
 array-share-prefix-space : tie.Need-array-share-prefix-space
 array-share-prefix-space c = search needs
 
-slice-aggregate-call-outcome : tie.Need-slice-aggregate-call-outcome
-slice-aggregate-call-outcome c = sym (length-take-le _ _ (omega arith))
+slice-aggregate-case-outcome : tie.Need-slice-aggregate-case-outcome
+slice-aggregate-case-outcome c = sym (length-take-le _ _ (omega arith))
 
-mul-call-outcome : tie.Need-mul-call-outcome
-mul-call-outcome c = search needs
+mul-case-outcome : tie.Need-mul-case-outcome
+mul-case-outcome c = search needs
 
-sub-call-outcome : tie.Need-sub-call-outcome
-sub-call-outcome c = search needs
+sub-case-outcome : tie.Need-sub-case-outcome
+sub-case-outcome c = search needs
 
-part-call-outcome-start : tie.Need-part-call-outcome-start
-part-call-outcome-start c = search needs
+part-case-outcome-start : tie.Need-part-case-outcome-start
+part-case-outcome-start c = search needs
 
-part-call-outcome-end : tie.Need-part-call-outcome-end
-part-call-outcome-end c = search needs
+part-case-outcome-end : tie.Need-part-case-outcome-end
+part-case-outcome-end c = search needs
 
-call-outcome-requires : tie.Need-call-outcome-requires
-call-outcome-requires c κs = search needs
+case-outcome-requires : tie.Need-case-outcome-requires
+case-outcome-requires c κs = search needs
 
 returns-5 : tie.Need-returns-5
 returns-5 c = search needs
 
-pub outcome-spec : {M : Type 1} → statement M
-outcome-spec =
+pub line-outcome-spec : {M : Type 1} → statement M
+line-outcome-spec =
     tie.close
     (tie.spec
     returns
-    returns-2
     shared-slice-read-index
     index-requires
+    returns-2
     returns-3
     add-past
     slice-aggregate-put-bytes
@@ -84,12 +81,11 @@ outcome-spec =
     part-put-bytes-end
     put-bytes-requires
     returns-4
-    shared-slice-read-call-outcome
     array-share-prefix-space
-    slice-aggregate-call-outcome
-    mul-call-outcome
-    sub-call-outcome
-    part-call-outcome-start
-    part-call-outcome-end
-    call-outcome-requires
+    slice-aggregate-case-outcome
+    mul-case-outcome
+    sub-case-outcome
+    part-case-outcome-start
+    part-case-outcome-end
+    case-outcome-requires
     returns-5)
