@@ -68,7 +68,13 @@ fn put_new(out: &mut [u8], at: usize, request: Request, octets: &[u8], secondary
         Request::Body(_) => emdf_field_writer::put_body(out, at, octets),
         Request::Settings(_, config) => emdf_field_writer::put_config(out, at, config),
         Request::Drop(_) => at,
-        Request::Insert(_, id, config) => emdf_field_writer::put_payload(out, at, id, config, octets),
+        Request::Insert(_, id, config) => emdf_field_writer::put_payload(
+            out,
+            at,
+            id,
+            config,
+            octets,
+        ),
         Request::Key(id) => emdf_field_writer::put_extended(out, at, 3, id),
         Request::Protection => emdf_field_writer::put_protection(out, at, octets, secondary),
     }

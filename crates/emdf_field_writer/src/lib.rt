@@ -167,7 +167,13 @@ pub fn put_body(out: &mut [u8], at: usize, body: &[u8]) -> usize
 }
 
 // A payload.
-pub fn put_payload(out: &mut [u8], at: usize, id: u64, config: EmdfPayloadConfig, body: &[u8]) -> usize
+pub fn put_payload(
+    out: &mut [u8],
+    at: usize,
+    id: u64,
+    config: EmdfPayloadConfig,
+    body: &[u8],
+) -> usize
     requires { ⌜ Room (now out) at (payloadBits (record { id = id; config = config; body = now body })) ⌝ }
     ensures { λ r. ⌜ Put (now (out .entry)) at (payloadBits (record { id = id; config = config; body = now (body .entry) })) (now (out .exit)) r ⌝ }
 {

@@ -18,9 +18,9 @@ use Rattle.openjoc_emdf.specs.declared.OpenAnswer.the-variants as OpenAnswer
 use Rattle.openjoc_emdf.proofs.Walk.{Listed, Opened, opened, unopened}
 use Rattle.emdf_answers.specs.Form.{words}
 use Rattle.emdf_answers.specs.Bits.{figured}
-use Rattle.emdf_answers.specs.Carriers.{padded, parsedListed, readInto, readNumber, readWords, rowsBytes, rowsAfter}
+use Rattle.emdf_answers.specs.Carriers.{padded, parsedWords, readInto, readNumber, readWords, rowsBytes, rowsAfter}
 use Rattle.emdf_answers.specs.declared.Figures.{Figures}
-use Rattle.emdf_answers.proofs.Carriers.{two-figures, figured-words, parsed-listed}
+use Rattle.emdf_answers.proofs.Carriers.{two-figures, figured-words}
 use Rattle.emdf_rows.proofs.Rows.{rows-after}
 
 -- the three promises of a reading
@@ -62,10 +62,10 @@ module _ (s table : List ℕ) where
     unfolding readInto inTable recordsNumber recordsFigures
     refused-table l = refused-answers (TableTooShort count) (rw (o .is, counted, lt-leb _ _ l))
 
-    pub read-carrier : {r : ℕ} {w answer table′ : List ℕ} → count ≤ length table / 216 → (r ≡ 0) × (answer ≡ words w) → w ≡ parsedListed p
+    pub read-carrier : {r : ℕ} {w answer table′ : List ℕ} → count ≤ length table / 216 → (r ≡ 0) × (answer ≡ words w) → w ≡ parsedWords p
         → ((xs : List Found) → Listed (take n s) c xs → length xs ≡ count → table′ ≡ sets table 0 (rowsBytes (recordsOf xs)))
         → Answers (readInto s table) r answer table table′
     unfolding readInto inTable readNumber readWords rowsAfter
     read-carrier l e g f =
         rw (o .is, counted, le-leb _ _ l)
-        (e .0, e .1 ∙ ap words (g ∙ ap parsedListed (sym (o .parsed)) ∙ parsed-listed n (o .container)), f (o .container .found) (o .listed) counted ∙ rows-after table (o .container .found) (omega (arith, counted)))
+        (e .0, e .1 ∙ ap words (g ∙ ap parsedWords (sym (o .parsed))), f (o .container .found) (o .listed) counted ∙ rows-after table (o .container .found) (omega (arith, counted)))

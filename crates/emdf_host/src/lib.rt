@@ -5,6 +5,7 @@ ghost use Rattle.emdf_format.specs.Reading.{reading};
 ghost use Rattle.emdf_format.specs.Calls.{classify, moveBody, foundAt, scratchAfter};
 ghost use Rattle.emdf_format.specs.Profile.{verdict};
 ghost use Rattle.emdf_format.specs.Edits.{bodyEdit, settingsEdit, dropEdit, insertEdit, keyEdit, protectionEdit, edited, blank};
+ghost use Rattle.openjoc_emdf.specs.Answers.{classAnswer};
 ghost use Rattle.emdf_answers.specs.Form.{words};
 ghost use Rattle.emdf_answers.specs.Bits.{replyBytes, newReply, remainingReply, readBitsReply, readBitReply, takeBitsReply, byteAlignReply};
 ghost use Rattle.emdf_answers.specs.Fields.{variableBitsReply};
@@ -63,7 +64,10 @@ pub extern "C" fn emdf_read_bit(
     ensures { λ r. ⌜ (r ≡ readBitReply (now (bytes .entry)) position end .number) × (now (answer .exit) ≡ replyBytes (readBitReply (now (bytes .entry)) position end)) ⌝ }
 {
     let cursor = BitCursor { position, end };
-    emdf_rows::put_reply(answer, emdf_answers::bit_reply(cursor, cursor.read_bit(bytes)))
+    emdf_rows::put_reply(
+        answer,
+        emdf_answers::bit_reply(cursor, cursor.read_bit(bytes)),
+    )
 }
 
 #[no_mangle]
@@ -121,7 +125,7 @@ pub extern "C" fn emdf_variable_bits(
 // What a range of bytes is.
 #[no_mangle]
 pub extern "C" fn emdf_classify(bytes: &[u8], answer: &mut [u8; 80]) -> u32
-    ensures { λ r. ⌜ (r ≡ classNumber (classify (now (bytes .entry)))) × (now (answer .exit) ≡ words (classWords (classify (now (bytes .entry))))) ⌝ }
+    ensures { λ r. ⌜ (r ≡ classNumber (classAnswer (classify (now (bytes .entry))))) × (now (answer .exit) ≡ words (classWords (classAnswer (classify (now (bytes .entry)))))) ⌝ }
 {
     let class = openjoc_emdf::classify_emdf_carrier(bytes);
     let values = emdf_answers::class_words(class);
@@ -139,7 +143,10 @@ pub extern "C" fn emdf_read(bytes: &[u8], table: &mut [u8], answer: &mut [u8; 72
         OpenAnswer::Open(parsed, first) => {
             let count = parsed.container.payloads;
             if table.len() / emdf_rows::ROW_BYTES < count {
-                return emdf_rows::put_refusal(answer, emdf_answers::with_figures(13, count as u64, 0));
+                return emdf_rows::put_refusal(
+                    answer,
+                    emdf_answers::with_figures(13, count as u64, 0),
+                );
             }
             let n = parsed.bytes_consumed.0;
             emdf_rows::put_rows(table, &bytes[..n], first, count);

@@ -43,7 +43,7 @@ unfolding configWords
 length-config t = simp (length-append, length-optional)
 
 length-record : (r : PayloadRecord) → length (words (recordWords r)) ≡ 216
-unfolding recordWords traceWords
+unfolding recordWords
 length-record r = length-words (recordWords r) ∙ simp (length-append, length-config)
 
 pub record-stored : (l : List ℕ) (at : ℕ) (r : PayloadRecord)

@@ -62,7 +62,7 @@ octet-part s p t h =
 
 -- ---- runs that are put one after another
 
-run-add : (s : List ℕ) (p a b : ℕ) → bitRun s p (a + b) ≡ bitRun s p a ++ bitRun s (p + a) b
+pub run-add : (s : List ℕ) (p a b : ℕ) → bitRun s p (a + b) ≡ bitRun s p a ++ bitRun s (p + a) b
 unfolding bitRun
 run-add s p a b = take-add a b (drop p (octetBits s)) ∙ rw drop-drop
 

@@ -141,7 +141,7 @@ fn copy_shifted(out: &mut [u8], i: usize, s: &[u8], j: usize, phase: usize, n: u
 }
 
 // n octets of s from bit from on, to out from byte i on.
-fn copy_octets(out: &mut [u8], i: usize, s: &[u8], from: usize, n: usize)
+pub fn copy_octets(out: &mut [u8], i: usize, s: &[u8], from: usize, n: usize)
     requires { ⌜ (i + n ≤ length (now out)) × (from + n * 8 ≤ length (now s) * 8) ⌝ }
     ensures { λ _. ⌜ octetBits (now (out .exit)) ≡ sets (octetBits (now (out .entry))) (i * 8) (bitRun (now (s .entry)) from (n * 8)) ⌝ }
 {
