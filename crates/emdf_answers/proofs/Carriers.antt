@@ -7,16 +7,14 @@ use lib.ListN.{length, getD}
 use Rattle.openjoc_bitio.specs.declared.BitError.{BitError}
 use Rattle.openjoc_bitio.specs.declared.BitError.the-variants as BitError
 use Rattle.openjoc_bitio.specs.Cursor as bit
-use Rattle.emdf_format.specs.Reading.{Container}
-use Rattle.emdf_format.specs.Calls.{figures, Class, nonEmdf, parsed, trailingData, malformed}
+use Rattle.emdf_format.specs.Calls.{figures}
 use Rattle.emdf_format.specs.declared.EmdfError.{EmdfError}
 use Rattle.emdf_format.specs.declared.EmdfError.the-variants.{TruncatedContainer, InvalidSyncword, Bit, InvalidVariableBits, VariableBitsGroupLimit, ValueOverflow, UnsupportedVersion, NonzeroReservedData, ReservedPrimaryProtectionLength, ExcessPadding, NonzeroPadding}
 use Rattle.emdf_format.specs.declared.Optional.{Optional}
 use Rattle.emdf_format.specs.declared.Optional.the-variants.{Absent, Present}
 use Rattle.emdf_format.specs.declared.EmdfPayloadConfig.{EmdfPayloadConfig}
-use Rattle.openjoc_emdf.specs.Answers.{containerOf, parsedEmdf, classAnswer}
 use Rattle.emdf_answers.specs.Bits.{figured}
-use Rattle.emdf_answers.specs.Carriers.{padded, parsedWords, parsedListed, optionalWords, configWords, classNumber, classWords, classReturned, classListed}
+use Rattle.emdf_answers.specs.Carriers.{padded, optionalWords, configWords}
 use Rattle.emdf_answers.specs.declared.Figures.{Figures}
 
 -- ---- a row
@@ -108,23 +106,3 @@ unfolding padded
 figured-padded n [] = refl
 figured-padded n (a ∷ []) = refl
 figured-padded n (a ∷ b ∷ fs) = refl
-
--- ---- the answers of a reading and of a classification are written as what they are answers of
-
-pub parsed-listed : (n : ℕ) (c : Container) → parsedListed (parsedEmdf n c) ≡ parsedWords n c
-unfolding parsedListed parsedWords containerOf
-parsed-listed n c = refl
-
-pub class-returned : (k : Class) → classReturned (classAnswer k) ≡ classNumber k
-unfolding classReturned classAnswer classNumber
-class-returned nonEmdf = refl
-class-returned (parsed n c) = refl
-class-returned (trailingData n len) = refl
-class-returned (malformed why) = refl
-
-pub class-listed : (k : Class) → classListed (classAnswer k) ≡ classWords k
-unfolding classListed classAnswer classWords
-class-listed nonEmdf = refl
-class-listed (parsed n c) = ap (λ (l : List ℕ). 1 ∷ l) (parsed-listed n c)
-class-listed (trailingData n len) = refl
-class-listed (malformed why) = refl

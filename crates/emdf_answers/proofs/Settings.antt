@@ -126,7 +126,7 @@ module _ (t : EmdfPayloadConfig) (below : (k : ℕ) → getD (configWords t) k 0
 -- ---- bytes outside the form
 
 pub unformed-unwritable : writableConfig unformed ≡ false
-unfolding writableConfig unformed whenPresent upTo _&_
+unfolding writableConfig whenPresent upTo _&_
 unformed-unwritable = refl
 
 and-not : (a : Bool) {b : Bool} → b ≡ false → (a & b) ≡ false

@@ -42,7 +42,7 @@ abbrev pub figured : ℕ → List ℕ → Figures
 figured n fs = record { number = n; first = getD fs 0 0; second = getD fs 1 0 }
 
 -- accepted: the value, and the cursor after it
-unfoldable pub accepted : BitCursor → ℕ → BitReply
+abbrev pub accepted : BitCursor → ℕ → BitReply
 accepted c v = numbered c 0 v 0
 
 -- refused: document 01's number and figures, and the cursor as it was

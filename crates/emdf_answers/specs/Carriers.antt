@@ -2,8 +2,8 @@
 use Prim.Native.Nat.{ℕ, zero, suc, _*_, _/_}
 use mathlib.Core.List.{List, [], _∷_, _++_}
 use lib.ListN.{length, drop}
-use Rattle.emdf_format.specs.Reading.{Container, reading}
-use Rattle.emdf_format.specs.Calls.{number, figures, recordsNumber, recordsFigures, bodyNumber, bodyFigures, recordsOf, inTable, Records, recorded, unrecorded, Class, nonEmdf, parsed, trailingData, malformed}
+use Rattle.emdf_format.specs.Reading.{reading}
+use Rattle.emdf_format.specs.Calls.{number, figures, recordsNumber, recordsFigures, bodyNumber, bodyFigures, recordsOf, inTable, Records, recorded, unrecorded}
 use Rattle.emdf_format.specs.declared.Optional.{Optional}
 use Rattle.emdf_format.specs.declared.Optional.the-variants.{Absent, Present}
 use Rattle.emdf_format.specs.declared.EmdfPayloadConfig.{EmdfPayloadConfig}
@@ -11,7 +11,7 @@ use Rattle.emdf_format.specs.declared.EmdfPayloadBitTrace.{EmdfPayloadBitTrace}
 use Rattle.emdf_format.specs.declared.PayloadRecord.{PayloadRecord}
 use Rattle.emdf_format.specs.declared.BodyAnswer.{BodyAnswer}
 use Rattle.emdf_format.specs.declared.BodyAnswer.the-variants as BodyAnswer
-use Rattle.openjoc_emdf.specs.Answers.{protectionBytes}
+use Rattle.openjoc_emdf.specs.Answers.{parsedEmdf}
 use Rattle.openjoc_emdf.specs.declared.ProtectionBytes.{ProtectionBytes}
 use Rattle.openjoc_emdf.specs.declared.ParsedEmdf.{ParsedEmdf}
 use Rattle.openjoc_emdf.specs.declared.CarrierClassification.{CarrierClassification}
@@ -27,15 +27,11 @@ padded (suc n) (v ∷ vs) = v ∷ padded n vs
 -- ---- a reading's answer: 9 numbers
 
 -- its length, and its bytes as a number of 128 bits, in two halves
-unfoldable pub protectionWords : ProtectionBytes → List ℕ
+abbrev pub protectionWords : ProtectionBytes → List ℕ
 protectionWords b = b .length .0 ∷ b .high ∷ b .low ∷ []
 
-unfoldable pub parsedWords : ℕ → Container → List ℕ
-parsedWords n c = n ∷ c .key-id ∷ length (c .found) ∷ protectionWords (protectionBytes (c .primary)) ++ protectionWords (protectionBytes (c .secondary))
-
--- the same, of the answer of a reading
-unfoldable pub parsedListed : ParsedEmdf → List ℕ
-parsedListed p =
+abbrev pub parsedWords : ParsedEmdf → List ℕ
+parsedWords p =
     p .«bytes_consumed» .0 ∷ p .container .«key_id» ∷ p .container .payloads ∷ protectionWords (p .container .protection .primary) ++ protectionWords (p .container .protection .secondary)
 
 -- the carrier s read into a table of so many bytes, 216 a row
@@ -47,7 +43,7 @@ readNumber (recorded n c) = 0
 readNumber (unrecorded why) = recordsNumber why
 
 unfoldable pub readWords : Records → List ℕ
-readWords (recorded n c) = parsedWords n c
+readWords (recorded n c) = parsedWords (parsedEmdf n c)
 readWords (unrecorded why) = padded 9 (recordsFigures why)
 
 -- ---- the table: a row of 27 numbers a payload
@@ -69,7 +65,7 @@ configWords t =
     ++ optionalWords (t .priority)
     ++ optionalWords (t .«processing_allowed»)
 
-unfoldable pub traceWords : EmdfPayloadBitTrace → List ℕ
+abbrev pub traceWords : EmdfPayloadBitTrace → List ℕ
 traceWords t =
     t .«payload_id_start_bit» .0
     ∷ t .«payload_id_end_bit» .0
@@ -95,30 +91,17 @@ rowsAfter (unrecorded why) table = table
 
 -- ---- a classification's answer: 10 numbers, the first of them the class
 
-unfoldable pub classNumber : Class → ℕ
-classNumber nonEmdf = 0
-classNumber (parsed n c) = 0
-classNumber (trailingData n len) = 0
-classNumber (malformed why) = number why
+unfoldable pub classNumber : CarrierClassification → ℕ
+classNumber CarrierClassification.NonEmdf = 0
+classNumber (CarrierClassification.Parsed p) = 0
+classNumber (CarrierClassification.TrailingData n len) = 0
+classNumber (CarrierClassification.Malformed why) = number why
 
-unfoldable pub classWords : Class → List ℕ
-classWords nonEmdf = padded 10 []
-classWords (parsed n c) = 1 ∷ parsedWords n c
-classWords (trailingData n len) = padded 10 (2 ∷ n ∷ len ∷ [])
-classWords (malformed why) = padded 10 (3 ∷ figures why)
-
--- the same, of the answer of a classification
-unfoldable pub classReturned : CarrierClassification → ℕ
-classReturned CarrierClassification.NonEmdf = 0
-classReturned (CarrierClassification.Parsed p) = 0
-classReturned (CarrierClassification.TrailingData n len) = 0
-classReturned (CarrierClassification.Malformed why) = number why
-
-unfoldable pub classListed : CarrierClassification → List ℕ
-classListed CarrierClassification.NonEmdf = padded 10 []
-classListed (CarrierClassification.Parsed p) = 1 ∷ parsedListed p
-classListed (CarrierClassification.TrailingData n len) = padded 10 (2 ∷ n .0 ∷ len .0 ∷ [])
-classListed (CarrierClassification.Malformed why) = padded 10 (3 ∷ figures why)
+unfoldable pub classWords : CarrierClassification → List ℕ
+classWords CarrierClassification.NonEmdf = padded 10 []
+classWords (CarrierClassification.Parsed p) = 1 ∷ parsedWords p
+classWords (CarrierClassification.TrailingData n len) = padded 10 (2 ∷ n .0 ∷ len .0 ∷ [])
+classWords (CarrierClassification.Malformed why) = padded 10 (3 ∷ figures why)
 
 -- ---- a body's move: 2 numbers
 

@@ -48,7 +48,7 @@ configOf s =
     }
 
 -- what stands for bytes outside the form: settings that are not writable, since no bit is 2
-unfoldable pub unformed : EmdfPayloadConfig
+abbrev pub unformed : EmdfPayloadConfig
 unformed =
     record {
       «sample_offset» = Absent;

@@ -19,7 +19,7 @@ unfoldable pub verdictNumber : JocProfileAnswer → ℕ
 verdictNumber (Accepted v) = 0
 verdictNumber (Refused why) = profileNumber why
 
-unfoldable pub statusWord : JocValidationStatus → ℕ
+abbrev pub statusWord : JocValidationStatus → ℕ
 statusWord NormativeCompliant = 0
 statusWord AcceptedWithDeviation = 1
 

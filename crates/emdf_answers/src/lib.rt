@@ -7,7 +7,7 @@ ghost use Rattle.openjoc_bitio.specs.Cursor.{number as bitNumber, figures as bi
 ghost use Rattle.emdf_format.specs.Calls.{number, figures, bodyNumber, bodyFigures, editNumber, editFigures, profileNumber, profileFigures};
 ghost use Rattle.emdf_answers.specs.Bits.{accepted, refusal, bitsReply, bitReply, windowReply, alignReply, numbered, figured};
 ghost use Rattle.emdf_answers.specs.Fields.{emdfRefusal, fieldReply};
-ghost use Rattle.emdf_answers.specs.Carriers.{padded, parsedListed, optionalWords, configWords, traceWords, classReturned, classListed, moveNumber, moveWords};
+ghost use Rattle.emdf_answers.specs.Carriers.{padded, parsedWords, optionalWords, configWords, traceWords, classNumber, classWords, moveNumber, moveWords};
 ghost use Rattle.emdf_answers.specs.Verdict.{profileOf, verdictNumber, verdictWords, statusWord};
 ghost use Rattle.emdf_answers.specs.Settings.{numberAt, optionalAt, pairFormed, pairsFormed, settingsFormed, configOf, unformed, settingsOf};
 ghost use Rattle.emdf_answers.specs.Edits.{editedNumber, editedWords};
@@ -140,7 +140,7 @@ fn figures_at(cursor: BitCursor, number: u32, first: u64, second: u64) -> BitRep
 
 // The class, and nine numbers.
 pub fn class_words(class: CarrierClassification) -> [u64; 10]
-    ensures { λ r. ⌜ r ≡ classListed class ⌝ }
+    ensures { λ r. ⌜ r ≡ classWords class ⌝ }
 {
     match class {
         CarrierClassification::NonEmdf => [0; 10],
@@ -157,7 +157,7 @@ pub fn class_words(class: CarrierClassification) -> [u64; 10]
 }
 
 pub fn class_number(class: CarrierClassification) -> u32
-    ensures { λ r. ⌜ r ≡ classReturned class ⌝ }
+    ensures { λ r. ⌜ r ≡ classNumber class ⌝ }
 {
     match class {
         CarrierClassification::Malformed(why) => emdf_figures(why).number,
@@ -173,7 +173,7 @@ fn with_class(class: u64, w: [u64; 9]) -> [u64; 10]
 
 // An accepted reading's nine numbers.
 pub fn parsed_words(p: ParsedEmdf) -> [u64; 9]
-    ensures { λ r. ⌜ r ≡ parsedListed p ⌝ }
+    ensures { λ r. ⌜ r ≡ parsedWords p ⌝ }
 {
     let c = p.container;
     let primary = c.protection.primary;

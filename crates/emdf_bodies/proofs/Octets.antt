@@ -1,42 +1,43 @@
--- Octets at any bit, each out of two bytes, stored one after another. Assumes nothing.
-use mathlib.Core.Path.{_≡_, refl, ap, _∙_}
-use mathlib.Core.List.{List, _++_}
-use Prim.Native.Nat.{ℕ, suc, _+_, _-_, _*_, _/_, _%_, _^_, _<_, _≤_}
-use native.Mathlib.Nat.{zero-add}
+-- Octets at any bit, put over a buffer's first. Assumes nothing.
+use mathlib.Core.Path.{_≡_, refl, sym, ap, _∙_}
+use mathlib.Core.List.{List, [], _++_}
+use Prim.Native.Nat.{ℕ, zero, suc, _+_, _*_, _≤_}
 use native.Mathlib.Omega.{arith}
-use lib.ListN.{length, getD, set, drop}
-use lib.Pow.{high, low}
-use lib.Seq.{sets, sets-eq}
-use Rattle.openjoc_bitio.specs.Bits.{bitsValue}
-use Rattle.openjoc_bitio.proofs.Bits.{value-split, value-range}
+use lib.ListN.{length, drop}
+use lib.Seq.{sets}
+use lib.Dec.{lit<}
+use Rattle.openjoc_bitio.specs.Bits.{bitsValue, numberBits}
+use Rattle.openjoc_bitio.proofs.Bits.{value-range}
+use Rattle.emdf_format.specs.Syntax.{_⨟_, octetBits}
 use Rattle.emdf_format.specs.Calls.{octetsAt}
-use Rattle.openjoc_emdf.proofs.Header.{word-is}
+use Rattle.emdf_format.specs.Edits.{Bytes}
+use Rattle.emdf_format.proofs.Splice.{front-bytes}
+use Rattle.emdf_writer.specs.Writing.{bitRun}
+use Rattle.emdf_writer.proofs.Run.{run-add, run-value}
 use Rattle.openjoc_emdf.proofs.Octets.{length-octets-at}
 
--- the octet that starts r bits into the byte i
-pub octet-value : (s : List ℕ) (i r : ℕ) → r < 8 → getD s i 0 < 256 → getD s (i + 1) 0 < 256 → (getD s i 0 * 256 + getD s (i + 1) 0) / 2 ^ (8 - r) % 256 ≡ bitsValue s (8 * i + r) 8
-octet-value s i r h a b =
-    let e : 16 ≡ r + 8 + (8 - r) = omega arith in
-    let w : getD s i 0 * 256 + getD s (i + 1) 0 ≡ bitsValue s (8 * i) (r + 8 + (8 - r)) = word-is s i a b refl ∙ ap (bitsValue s (8 * i)) e in
-    rw (w, value-split s (8 * i) (r + 8) (8 - r), high (bitsValue s (8 * i) (r + 8)) (8 - r) (value-range s (8 * i + (r + 8)) (8 - r)), value-split s (8 * i) r 8)
-    (low (bitsValue s (8 * i) r) 8 (value-range s (8 * i + r) 8))
-
--- ---- n octets from bit p on: what is left to store after k of them
-
-pub one-stored : (l s : List ℕ) (p n k : ℕ) {b : ℕ} → k < n → b ≡ bitsValue s (p + 8 * k) 8
-    → sets (set l k b) (k + 1) (octetsAt s (p + 8 * (k + 1)) (n - (k + 1))) ≡ sets l k (octetsAt s (p + 8 * k) (n - k))
+octets-bytes : (s : List ℕ) (p n : ℕ) → Bytes (octetsAt s p n)
 unfolding octetsAt
-one-stored l s p n k h e =
-    let x : n - k ≡ suc (n - (k + 1)) = omega arith in
-    let y : k + 1 ≡ suc k = omega arith in
-    let z : p + 8 * suc k ≡ p + 8 * k + 8 = omega arith in
-    rw (x, y, z, e)
+octets-bytes s p zero k = lit< tt
+octets-bytes s p (suc n) zero = value-range s p 8
+octets-bytes s p (suc n) (suc k) = octets-bytes s (p + 8) n k
 
-pub all-stored : (l s : List ℕ) (p n k : ℕ) → n ≤ k → sets l k (octetsAt s p (n - k)) ≡ l
-unfolding octetsAt
-all-stored l s p n k h = let z : n - k ≡ 0 = omega arith in rw z
+no-run : (s : List ℕ) (p : ℕ) → bitRun s p 0 ≡ []
+unfolding bitRun
+no-run s p = refl
 
-pub stored-front : (l s : List ℕ) (p n : ℕ) → n ≤ length l → sets l 0 (octetsAt s p n) ≡ octetsAt s p n ++ drop n l
-stored-front l s p n h =
-    let e : 0 + length (octetsAt s p n) ≡ n = rw (zero-add, length-octets-at) in
-    sets-eq (octetsAt s p n) l 0 (rw e h) ∙ rw e
+-- their bits are a run of the slice's
+octets-run : (s : List ℕ) (p n : ℕ) → p + n * 8 ≤ length s * 8 → octetBits (octetsAt s p n) ≡ bitRun s p (n * 8)
+unfolding octetsAt octetBits _⨟_
+octets-run s p zero h = sym (no-run s p)
+octets-run s p (suc n) h =
+    let e : suc n * 8 ≡ 8 + n * 8 = omega arith in
+    ap (λ (l : List ℕ). numberBits 8 (bitsValue s p 8) ++ l) (octets-run s (p + 8) n (omega arith))
+    ∙ sym (ap (bitRun s p) e ∙ run-add s p 8 (n * 8) ∙ ap (λ (l : List ℕ). l ++ bitRun s (p + 8) (n * 8)) (run-value s p 8 (omega arith)))
+
+-- what a buffer holds once they are copied to its start
+pub octets-copied : (out out′ s : List ℕ) (p n : ℕ) → Bytes out → Bytes out′ → n ≤ length out → p + n * 8 ≤ length s * 8
+    → octetBits out′ ≡ sets (octetBits out) 0 (bitRun s p (n * 8)) → out′ ≡ octetsAt s p n ++ drop n out
+octets-copied out out′ s p n f g l h e =
+    let k : length (octetsAt s p n) ≡ n = length-octets-at s p n in
+    rw k at (front-bytes (octetsAt s p n) out out′ (octets-bytes s p n) f g (rw k l) (e ∙ ap (sets (octetBits out) 0) (sym (octets-run s p n h))))

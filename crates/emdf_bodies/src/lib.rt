@@ -1,10 +1,10 @@
 // The bodies of a carrier's payloads: one that starts on a byte stays where it is, another one is moved to a scratch.
 ghost use mathlib.Core.Path.{_≡_};
-ghost use mathlib.Core.List.{List, _++_};
-ghost use Prim.Native.Nat.{_+_, _-_, _*_, _/_, _%_, _^_, _≤_, _<_};
-ghost use lib.ListN.{length, drop, getElem?};
+ghost use mathlib.Core.List.{List};
+ghost use Prim.Native.Nat.{_-_, _/_, _≤_};
+ghost use lib.ListN.{length, getElem?};
 ghost use Rattle.emdf_format.specs.Reading.{Found, reading};
-ghost use Rattle.emdf_format.specs.Calls.{octetsAt, moveBody, foundAt, scratchAfter, chooseBody};
+ghost use Rattle.emdf_format.specs.Calls.{moveBody, foundAt, scratchAfter, chooseBody};
 ghost use Rattle.openjoc_emdf.proofs.Walk.{Listed};
 ghost use Rattle.emdf_bodies.specs.Bodies.{bodyOf, findBody};
 use emdf_format::BodyAnswer;
@@ -31,7 +31,7 @@ pub fn move_body(bytes: &[u8], place: usize, scratch: &mut [u8]) -> BodyAnswer
     if scratch.len() < length.0 {
         return BodyAnswer::Refused(BodyError::ScratchTooShort { needed: length });
     }
-    copy_octets(bytes, start.0, scratch, length.0);
+    emdf_writer::copy_octets(scratch, 0, bytes, start.0, length.0);
     a
 }
 
@@ -106,28 +106,4 @@ fn body_span(trace: EmdfPayloadBitTrace) -> BodyAnswer
     let start = trace.payload_body_start_bit;
     let end = trace.payload_body_end_bit;
     BodyAnswer::Body(start, ByteCount((end.0 - start.0) / 8))
-}
-
-// The n octets of s from bit start on, to the first bytes of out.
-fn copy_octets(s: &[u8], start: usize, out: &mut [u8], n: usize)
-    requires { ⌜ (start / 8 + n < length (now s)) × (n ≤ length (now out)) ⌝ }
-    ensures { λ _. ⌜ now (out .exit) ≡ octetsAt (now (s .entry)) start n ++ drop n (now (out .entry)) ⌝ }
-{
-    let first = start / 8;
-    let phase = start % 8;
-    let mut k: usize = 0;
-    while k < n {
-        let octet = octet_in(s[first + k], s[first + k + 1], phase);
-        out[k] = octet;
-        k += 1;
-    }
-}
-
-// The octet that starts phase bits into the byte a and ends in the byte b.
-fn octet_in(a: u8, b: u8, phase: usize) -> u8
-    requires { ⌜ phase < 8 ⌝ }
-    ensures { λ r. ⌜ r ≡ (a * 256 + b) / 2 ^ (8 - phase) % 256 ⌝ }
-{
-    let pair = (a as u16) * 256 + b as u16;
-    ((pair >> (8 - phase)) % 256) as u8
 }

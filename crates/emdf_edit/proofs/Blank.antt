@@ -20,8 +20,9 @@ use Rattle.emdf_format.proofs.Standing.{length-then, both}
 use Rattle.emdf_format.proofs.Bytes.{declared-is}
 use Rattle.emdf_format.proofs.Splice.{⨟-assoc, written-bytes}
 use Rattle.emdf_measure.specs.Parts.{writableProtection}
-use Rattle.emdf_edit.specs.Fields.{blankContents, syncBits, headerBits}
-use Rattle.emdf_edit.proofs.Putting.{length-header}
+use Rattle.emdf_field_writer.specs.Fields.{syncBits, headerBits}
+use Rattle.emdf_edit.specs.Cuts.{blankContents}
+use Rattle.emdf_field_writer.proofs.Putting.{length-header}
 
 -- ---- sizes
 

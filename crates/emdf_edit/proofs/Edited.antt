@@ -21,7 +21,8 @@ use Rattle.emdf_writer.specs.Writing.{bitRun}
 use Rattle.emdf_plan.specs.declared.Cut.{Cut}
 use Rattle.emdf_plan.specs.declared.Plan.the-variants as Plan
 use Rattle.emdf_plan.specs.Plan.{newBits, planOf, spliced}
-use Rattle.emdf_edit.specs.Fields.{syncBits, keptBits, Within}
+use Rattle.emdf_field_writer.specs.Fields.{syncBits}
+use Rattle.emdf_edit.specs.Cuts.{keptBits, Within}
 use Rattle.emdf_edit.proofs.Blank.{front-written}
 use Rattle.emdf_plan.proofs.Spliced.{Spliceable, plan-refused}
 

@@ -242,13 +242,20 @@ joined : {a b c d : List ℕ} → a ≡ b → c ≡ d → a ⨟ c ≡ b ++ d
 unfolding _⨟_
 joined p q = rw (p, q)
 
+-- bytes whose bits are put over the first of dst
+pub front-bytes : (xs dst dst′ : List ℕ) → Bytes xs → Bytes dst → Bytes dst′ → length xs ≤ length dst
+    → octetBits dst′ ≡ sets (octetBits dst) 0 (octetBits xs) → dst′ ≡ xs ++ drop (length xs) dst
+front-bytes xs dst dst′ x f g l h =
+    let n = length xs in
+    let b : length (octetBits xs) ≡ 8 * n = omega (arith, length-octets xs) in
+    let r : 0 + length (octetBits xs) ≤ length (octetBits dst) = omega (arith, b, length-octets dst) in
+    let e : sets (octetBits dst) 0 (octetBits xs) ≡ octetBits xs ++ drop (8 * n) (octetBits dst) = sets-eq (octetBits xs) (octetBits dst) 0 r ∙ rw (zero-add, b) in
+    let t : Bytes (drop n dst) = λ k. rw (getD-drop n dst k 0) (f (n + k)) in
+    same-octets dst′ (xs ++ drop n dst) g (bytes-join xs (drop n dst) x t)
+    (h ∙ e ∙ sym (octets-append xs (drop n dst) ∙ joined refl (octets-drop n dst)))
+
 pub written-bytes : (d : Contents) (dst dst′ : List ℕ) → Bytes dst → Bytes dst′ → carrierLength d ≤ length dst
     → octetBits dst′ ≡ sets (octetBits dst) 0 (carrierBits d) → dst′ ≡ carrier d ++ drop (carrierLength d) dst
 written-bytes d dst dst′ f g l h =
-    let n = carrierLength d in
-    let b : length (carrierBits d) ≡ 8 * n = length-carrier-bits d in
-    let r : 0 + length (carrierBits d) ≤ length (octetBits dst) = omega (arith, b, length-octets dst) in
-    let e : sets (octetBits dst) 0 (carrierBits d) ≡ carrierBits d ++ drop (8 * n) (octetBits dst) = sets-eq (carrierBits d) (octetBits dst) 0 r ∙ rw (zero-add, b) in
-    let t : Bytes (drop n dst) = λ k. rw (getD-drop n dst k 0) (f (n + k)) in
-    same-octets dst′ (carrier d ++ drop n dst) g (bytes-join (carrier d) (drop n dst) (carrier-lt d) t)
-    (h ∙ e ∙ sym (octets-append (carrier d) (drop n dst) ∙ joined (octets-carrier d) (octets-drop n dst)))
+    let e : length (carrier d) ≡ carrierLength d = omega (arith, length-octets (carrier d), ap length (octets-carrier d), length-carrier-bits d) in
+    rw e at (front-bytes (carrier d) dst dst′ (carrier-lt d) f g (omega (arith, e)) (h ∙ ap (sets (octetBits dst) 0) (sym (octets-carrier d))))

@@ -19,7 +19,7 @@ use Rattle.emdf_format.specs.Contents.{_&_, iff, isPresent, isOne, whenP
 use Rattle.emdf_format.specs.Reader.{andThen, _>>=_, give, ask, choose, position, remaining, fromBits, bits, groupsFrom, variableBits, extendedValue, octets, present, flagged}
 use Rattle.emdf_format.specs.Reading.{reserved, sampleOffset, codecData, configControls, payloadConfig, Found, traceOf, payloadAfter, payloads, Container, padding, containerEnd, container, accepted, refusal, consumed, reading, payloadsOf, contentsOf}
 use Rattle.emdf_format.specs.Calls.{number, figures, nonEmdf, trailingData, classOf, classify}
-use Rattle.emdf_format.specs.Profile.{meets, onOamd, table56, deviates, differ, marks, deviations, word, ones, passes, lets, allPass, meetsProfile}
+use Rattle.emdf_format.specs.Profile.{meets, table56, deviates, differ, marks, deviations, word, ones, passes, lets, allPass, meetsProfile}
 use Rattle.emdf_format.specs.Edits.{bodyEdit, dropEdit, withBody, withPayloads, change, placeExists, inRoom, weighed, step, stepAnswer, written, stepFrom, edited}
 
 abbrev A : List ℕ
@@ -89,7 +89,7 @@ pub record Starred : Type 0 where
   pub size-256 : length (variableField 8 256) ≡ 18
 
 pub starred : Starred
-unfolding bitAt bitsValue numberBits bitLength bitsRemaining readBits _⨟_ groupsBefore variableField countBefore groups escape extendedField octetBits flaggedField presentField _&_ iff isPresent isOne whenPresent upTo hasAligned hasPriority ruled writableConfig writablePayload writablePayloads protectionLength protectionCode codable writable extensionBits flaggedBits presentBits neededConfig neededPayload neededPayloads neededBits declared sampleOffsetBits codecDataBits configBits payloadBits payloadsBits protectionBits containerBits carrierBits bitsNumber bytesOf carrier andThen _>>=_ give ask choose position remaining fromBits bits groupsFrom variableBits extendedValue octets present flagged reserved sampleOffset codecData configControls payloadConfig payloadAfter payloads padding containerEnd container consumed reading payloadsOf number figures classOf classify withBody withPayloads change placeExists inRoom weighed step stepAnswer written stepFrom edited
+unfolding bitAt bitsValue numberBits bitLength bitsRemaining readBits _⨟_ groupsBefore variableField countBefore groups escape extendedField octetBits flaggedField presentField _&_ iff isPresent isOne whenPresent upTo hasAligned hasPriority ruled writableConfig writablePayload writablePayloads protectionLength protectionCode codable writable extensionBits flaggedBits presentBits neededConfig neededPayload neededPayloads neededBits declared sampleOffsetBits codecDataBits configBits payloadBits payloadsBits protectionBits containerBits carrierBits bitsNumber bytesOf carrier andThen _>>=_ give ask choose position remaining fromBits bits groupsFrom variableBits extendedValue octets present flagged reserved sampleOffset codecData configControls payloadConfig payloadAfter payloads padding containerEnd container consumed reading payloadsOf figures classOf classify withBody withPayloads change placeExists inRoom weighed step stepAnswer written stepFrom edited
 starred = record {
   A-reads = refl;
   A-written = refl;
@@ -167,7 +167,7 @@ pub record Mistakes : Type 0 where
   pub not-strict : meetsProfile EtsiStrict unaligned (joined (Present 5)) ≡ false
 
 pub mistakes : Mistakes
-unfolding bitAt bitsValue numberBits bitLength bitsRemaining readBits _⨟_ groupsBefore variableField countBefore groups escape extendedField octetBits flaggedField presentField _&_ iff isPresent isOne whenPresent upTo hasAligned hasPriority ruled writableConfig writablePayload writablePayloads protectionLength protectionCode codable writable extensionBits flaggedBits presentBits neededConfig neededPayload neededPayloads neededBits declared sampleOffsetBits codecDataBits configBits payloadBits payloadsBits protectionBits containerBits carrierBits bitsNumber bytesOf carrier andThen _>>=_ give ask choose position remaining fromBits bits groupsFrom variableBits extendedValue octets present flagged reserved sampleOffset codecData configControls payloadConfig payloadAfter payloads padding containerEnd container consumed reading payloadsOf differ meets marks deviates table56 deviations word ones onOamd passes lets allPass meetsProfile
+unfolding bitAt bitsValue numberBits bitLength bitsRemaining readBits _⨟_ groupsBefore variableField countBefore groups escape extendedField octetBits flaggedField presentField _&_ iff isPresent isOne whenPresent upTo hasAligned hasPriority ruled writableConfig writablePayload writablePayloads protectionLength protectionCode codable writable extensionBits flaggedBits presentBits neededConfig neededPayload neededPayloads neededBits declared sampleOffsetBits codecDataBits configBits payloadBits payloadsBits protectionBits containerBits carrierBits bitsNumber bytesOf carrier andThen _>>=_ give ask choose position remaining fromBits bits groupsFrom variableBits extendedValue octets present flagged reserved sampleOffset codecData configControls payloadConfig payloadAfter payloads padding containerEnd container consumed reading payloadsOf differ meets marks deviates table56 deviations word ones passes lets allPass meetsProfile
 mistakes = record {
   padding-length-first = refl;
   both-codes-first = refl;

@@ -27,7 +27,7 @@ use Rattle.emdf_format.specs.Reading.{Found, Container, Reading, accepte
 
 -- ---- a refusal's number in document 01, and its figures
 
-unfoldable pub number : EmdfError → ℕ
+abbrev pub number : EmdfError → ℕ
 number (TruncatedContainer declared available) = 1
 number (InvalidSyncword actual) = 2
 number (Bit why) = bit.number why

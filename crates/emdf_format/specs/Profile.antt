@@ -36,7 +36,7 @@ meets (JocProfileValue.Unsigned n) Absent = false
 meets (JocProfileValue.Unsigned n) (Present v) = eqb v n
 
 -- let pass on OAMD alone
-unfoldable pub onOamd : JocRole → AllowedDeviation → AllowedDeviation
+abbrev pub onOamd : JocRole → AllowedDeviation → AllowedDeviation
 onOamd Oamd x = x
 onOamd Joc x = Never
 

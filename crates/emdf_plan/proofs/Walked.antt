@@ -70,7 +70,7 @@ pub record Ahead (s : List ℕ) (mark : ℕ) (c : BitCursor) (xs : List Found) :
 
 module _ (s : List ℕ) (mark : ℕ) where
   past-one : (c : BitCursor) (x : Found) (xs : List Found) → Ahead s mark c (x ∷ xs) → Ahead s mark (pastStep (skipOf (stepAt s c)) c) xs
-  unfolding pastStep skipOf payloadsOf neededPayloads
+  unfolding skipOf payloadsOf neededPayloads
   past-one c x xs a =
       let l = a .listed in
       let d = listed-step s c x xs l in

@@ -11,7 +11,7 @@ use Rattle.openjoc_emdf.specs.declared.SkipStep.{SkipStep}
 use Rattle.openjoc_emdf.specs.declared.SkipStep.the-variants as SkipStep
 
 -- past a payload; elsewhere the cursor stays
-unfoldable pub pastStep : SkipStep → BitCursor → BitCursor
+abbrev pub pastStep : SkipStep → BitCursor → BitCursor
 pastStep (SkipStep.Past id next) c = next
 pastStep (SkipStep.End next) c = c
 pastStep (SkipStep.Refused why) c = c

@@ -89,7 +89,7 @@ pub record Planned (s : List ℕ) (rows : ℕ) (x : Reading) : Type 0 where
   pub left : Left s (planOf rows s x .first) (planned (inTable rows x))
 
 pub plan-is : (s : List ℕ) (rows : ℕ) (x : Reading) → reading s ≡ x → Planned s rows x
-unfolding planOf rowsPlan noRows inTable recordsAnswer containerOf
+unfolding planOf rowsPlan inTable recordsAnswer containerOf
 plan-is s rows (refusal why) h = record { answer = refl; count = refl; room = omega arith; left = λ h. absurd (omega arith) }
 plan-is s rows (accepted n c) h = go (leb (length (c .found)) rows) refl
   where

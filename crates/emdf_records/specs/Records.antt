@@ -22,7 +22,7 @@ recordsAnswer (unrecorded why) = RecordsAnswer.Refused why
 -- ---- before a row is filled
 
 -- refused: no row is filled
-unfoldable pub noRows : RecordsError → RecordsPlan
+abbrev pub noRows : RecordsError → RecordsPlan
 noRows why = record { answer = RecordsAnswer.Refused why; count = 0; first = cursorAt 0 0 }
 
 unfoldable pub rowsPlan : ParsedEmdf → BitCursor → ℕ → RecordsPlan

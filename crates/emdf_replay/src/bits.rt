@@ -1,11 +1,6 @@
 // A case of the bit calls, by its line's numbers: call length byte*length position end argument number word*6.
-ghost use mathlib.Core.Path.{_≡_};
-ghost use lib.ListN.{length};
 use crate::list::Outcome;
 use crate::words;
-
-// The most bytes of a case.
-const MOST: usize = 4096;
 
 // The number that a call returned, or that the line names none.
 enum CallAnswer {
@@ -13,30 +8,11 @@ enum CallAnswer {
     Bad,
 }
 
-pub(crate) fn outcome(numbers: &[u64]) -> Outcome {
-    let count = numbers.len();
-    if count < 12 {
+// The rest of the line is position end argument number word*6.
+pub(crate) fn outcome(call: u64, bytes: &[u8], rest: &[u64]) -> Outcome {
+    if rest.len() != 10 {
         return Outcome::Bad;
     }
-    let length = count - 12;
-    if MOST < length {
-        return Outcome::Bad;
-    }
-    if words::index(numbers[1]) != length {
-        return Outcome::Bad;
-    }
-    let mut space = [0u8; MOST];
-    let past = 2 + length;
-    if !words::put_bytes(&mut space, &numbers[2..past]) {
-        return Outcome::Bad;
-    }
-    call_outcome(numbers[0], &space[..length], &numbers[past..])
-}
-
-// The rest of the line: position end argument number word*6.
-fn call_outcome(call: u64, bytes: &[u8], rest: &[u64]) -> Outcome
-    requires { ⌜ length (now rest) ≡ 10 ⌝ }
-{
     let position = words::index(rest[0]);
     let end = words::index(rest[1]);
     let mut answer = [0u8; 48];

@@ -1,39 +1,15 @@
 // A case of reading a carrier, by its line's numbers: length byte*length number word*9, and 27 numbers a payload.
-ghost use Prim.Native.Nat.{_≤_};
-ghost use lib.ListN.{length};
 use crate::list::Outcome;
 use crate::words;
-
-// The most bytes of a case.
-const MOST: usize = 4096;
 
 // Room for 128 payloads.
 const TABLE: usize = 27648;
 
-pub(crate) fn outcome(numbers: &[u64]) -> Outcome {
-    let count = numbers.len();
-    if count < 11 {
+// The rest of the line is number word*9, and the rows.
+pub(crate) fn outcome(bytes: &[u8], rest: &[u64]) -> Outcome {
+    if rest.len() < 10 {
         return Outcome::Bad;
     }
-    let length = words::index(numbers[0]);
-    if count - 11 < length {
-        return Outcome::Bad;
-    }
-    if MOST < length {
-        return Outcome::Bad;
-    }
-    let mut space = [0u8; MOST];
-    let past = 1 + length;
-    if !words::put_bytes(&mut space, &numbers[1..past]) {
-        return Outcome::Bad;
-    }
-    read_outcome(&space[..length], &numbers[past..])
-}
-
-// The rest of the line: number word*9, and the rows.
-fn read_outcome(bytes: &[u8], rest: &[u64]) -> Outcome
-    requires { ⌜ 10 ≤ length (now rest) ⌝ }
-{
     let mut table = [0u8; TABLE];
     let mut answer = [0u8; 72];
     let number = emdf_host::emdf_read(bytes, &mut table, &mut answer);

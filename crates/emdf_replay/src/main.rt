@@ -15,6 +15,9 @@ use list::Tally;
 // The longest list that is read, in bytes.
 const MOST_BYTES: usize = 1048576;
 
+// The most bytes of a case.
+const MOST_CASE_BYTES: usize = 4096;
+
 // The most numbers on a line: 12 and the bytes of a case.
 const MOST_NUMBERS: usize = 4108;
 
@@ -107,9 +110,43 @@ fn case_at(kind: ListKind, text: &[u8], at: usize) -> CaseAnswer
     }
 }
 
+// A case of the bit calls has its call's number before the bytes.
 fn list_outcome(kind: ListKind, numbers: &[u64]) -> Outcome {
     match kind {
-        ListKind::Bits => bits::outcome(numbers),
-        ListKind::Carriers => carriers::outcome(numbers),
+        ListKind::Bits => {
+            if numbers.len() == 0 {
+                return Outcome::Bad;
+            }
+            line_outcome(kind, numbers[0], &numbers[1..])
+        }
+        ListKind::Carriers => line_outcome(kind, 0, numbers),
+    }
+}
+
+// length byte*length, and what is compared.
+fn line_outcome(kind: ListKind, call: u64, numbers: &[u64]) -> Outcome {
+    let count = numbers.len();
+    if count < 1 {
+        return Outcome::Bad;
+    }
+    let length = words::index(numbers[0]);
+    if count - 1 < length {
+        return Outcome::Bad;
+    }
+    if MOST_CASE_BYTES < length {
+        return Outcome::Bad;
+    }
+    let mut space = [0u8; MOST_CASE_BYTES];
+    let past = 1 + length;
+    if !words::put_bytes(&mut space, &numbers[1..past]) {
+        return Outcome::Bad;
+    }
+    case_outcome(kind, call, &space[..length], &numbers[past..])
+}
+
+fn case_outcome(kind: ListKind, call: u64, bytes: &[u8], rest: &[u64]) -> Outcome {
+    match kind {
+        ListKind::Bits => bits::outcome(call, bytes, rest),
+        ListKind::Carriers => carriers::outcome(bytes, rest),
     }
 }

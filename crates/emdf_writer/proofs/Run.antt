@@ -54,18 +54,6 @@ length-run s p n h = rw (run-value s p n h) (length-number n _)
 
 -- ---- octets
 
--- the octet that starts r bits into the byte i
-pub octet-value : (s : List ℕ) (i r : ℕ) → r < 8 → getD s i 0 < 256 → getD s (i + 1) 0 < 256 → (getD s i 0 * 256 + getD s (i + 1) 0) / 2 ^ (8 - r) % 256 ≡ bitsValue s (i * 8 + r) 8
-octet-value s i r h a b =
-    let z : 8 * i ≡ i * 8 = omega arith in
-    let z′ : 8 * (i + 1) ≡ i * 8 + 8 = omega arith in
-    let e : r + 8 + (8 - r) ≡ 16 = omega arith in
-    let x : bitsValue s (i * 8) 8 ≡ getD s i 0 = rw z at (byte-value s i a) in
-    let y : bitsValue s (i * 8 + 8) 8 ≡ getD s (i + 1) 0 = rw z′ at (byte-value s (i + 1) b) in
-    let w : getD s i 0 * 256 + getD s (i + 1) 0 ≡ bitsValue s (i * 8) (r + 8 + (8 - r)) = sym (ap (bitsValue s (i * 8)) e ∙ value-split s (i * 8) 8 8 ∙ rw (x, y)) in
-    rw (w, value-split s (i * 8) (r + 8) (8 - r), high (bitsValue s (i * 8) (r + 8)) (8 - r) (value-range s (i * 8 + (r + 8)) (8 - r)), value-split s (i * 8) r 8)
-    (low (bitsValue s (i * 8) r) 8 (value-range s (i * 8 + r) 8))
-
 -- its first t bits
 pub octet-part : (s : List ℕ) (p t : ℕ) → t ≤ 8 → bitsValue s p 8 / 2 ^ (8 - t) ≡ bitsValue s p t
 octet-part s p t h =
@@ -74,7 +62,7 @@ octet-part s p t h =
 
 -- ---- runs that are put one after another
 
-run-add : (s : List ℕ) (p a b : ℕ) → bitRun s p (a + b) ≡ bitRun s p a ++ bitRun s (p + a) b
+pub run-add : (s : List ℕ) (p a b : ℕ) → bitRun s p (a + b) ≡ bitRun s p a ++ bitRun s (p + a) b
 unfolding bitRun
 run-add s p a b = take-add a b (drop p (octetBits s)) ∙ rw drop-drop
 

@@ -1,6 +1,6 @@
 // Numbers and runs of bits, written into a caller's bytes at any bit position.
 ghost use mathlib.Core.Path.{_≡_};
-ghost use Prim.Native.Nat.{min, _+_, _-_, _*_, _/_, _%_, _^_, _<_, _≤_};
+ghost use Prim.Native.Nat.{_+_, _-_, _*_, _/_, _%_, _^_, _<_, _≤_};
 ghost use lib.ListN.{length, getD};
 ghost use lib.Seq.{sets};
 ghost use lib.Dec.{leb};
@@ -48,27 +48,14 @@ fn has_bits(s: &[u8], at: usize, n: usize) -> bool
     n <= limit - at
 }
 
-fn least(a: usize, b: usize) -> usize
-    ensures { λ r. ⌜ r ≡ min a b ⌝ }
-{
-    if a < b { a } else { b }
-}
-
-fn pow2(t: usize) -> u64
-    requires { ⌜ t < 64 ⌝ }
-    ensures { λ r. ⌜ r ≡ 2 ^ t ⌝ }
-{
-    1 << t
-}
-
 // The byte b with the t bits of v in place of those above its low ones.
 fn byte_with(b: u8, t: usize, below: usize, v: u64) -> u8
     requires { ⌜ (t + below ≤ 8) × (v < 2 ^ t) ⌝ }
     ensures { λ r. ⌜ r ≡ (b / 2 ^ (t + below) * 2 ^ t + v) * 2 ^ below + b % 2 ^ below ⌝ }
 {
     let x = b as u64;
-    let m = pow2(t);
-    let k = pow2(below);
+    let m = openjoc_bitio::pow2(t);
+    let k = openjoc_bitio::pow2(below);
     let y = ((x >> (t + below)) * m + v) * k + x % k;
     (y % 256) as u8
 }
@@ -91,9 +78,9 @@ fn put_parts(out: &mut [u8], at: usize, width: usize, v: u64)
     let mut n = width;
     let mut p = at;
     while 0 < n {
-        let t = least(n, 8 - p % 8);
+        let t = openjoc_bitio::least(n, 8 - p % 8);
         n -= t;
-        put_part(out, p, t, (v >> n) % pow2(t));
+        put_part(out, p, t, (v >> n) % openjoc_bitio::pow2(t));
         p += t;
     }
 }
@@ -108,21 +95,12 @@ fn byte_at(s: &[u8], i: usize) -> u8
     s[i]
 }
 
-// The octet that starts phase bits into the byte a and ends in the byte b.
-fn octet_in(a: u8, b: u8, phase: usize) -> u8
-    requires { ⌜ phase < 8 ⌝ }
-    ensures { λ r. ⌜ r ≡ (a * 256 + b) / 2 ^ (8 - phase) % 256 ⌝ }
-{
-    let pair = (a as u16) * 256 + b as u16;
-    ((pair >> (8 - phase)) % 256) as u8
-}
-
 // The octet from bit p on, with zeros past the end.
 fn octet_at(s: &[u8], p: usize) -> u8
     ensures { λ r. ⌜ r ≡ bitsValue (now (s .entry)) p 8 ⌝ }
 {
     let i = p / 8;
-    octet_in(byte_at(s, i), byte_at(s, i + 1), p % 8)
+    openjoc_bitio::octet_in(byte_at(s, i), byte_at(s, i + 1), p % 8)
 }
 
 // The t bits of s from bit from on, to out from bit at on, where they lie in one byte.
@@ -156,14 +134,14 @@ fn copy_shifted(out: &mut [u8], i: usize, s: &[u8], j: usize, phase: usize, n: u
 {
     let mut k: usize = 0;
     while k < n {
-        let octet = octet_in(s[j + k], s[j + k + 1], phase);
+        let octet = openjoc_bitio::octet_in(s[j + k], s[j + k + 1], phase);
         out[i + k] = octet;
         k += 1;
     }
 }
 
 // n octets of s from bit from on, to out from byte i on.
-fn copy_octets(out: &mut [u8], i: usize, s: &[u8], from: usize, n: usize)
+pub fn copy_octets(out: &mut [u8], i: usize, s: &[u8], from: usize, n: usize)
     requires { ⌜ (i + n ≤ length (now out)) × (from + n * 8 ≤ length (now s) * 8) ⌝ }
     ensures { λ _. ⌜ octetBits (now (out .exit)) ≡ sets (octetBits (now (out .entry))) (i * 8) (bitRun (now (s .entry)) from (n * 8)) ⌝ }
 {
@@ -181,7 +159,7 @@ fn copy_run(out: &mut [u8], at: usize, s: &[u8], from: usize, n: usize)
     requires { ⌜ (at + n ≤ length (now out) * 8) × (from + n ≤ length (now s) * 8) × (at + n < 2 ^ 64) × (from + n < 2 ^ 64) ⌝ }
     ensures { λ _. ⌜ octetBits (now (out .exit)) ≡ sets (octetBits (now (out .entry))) at (bitRun (now (s .entry)) from n) ⌝ }
 {
-    let head = least(n, (8 - at % 8) % 8);
+    let head = openjoc_bitio::least(n, (8 - at % 8) % 8);
     copy_part(out, at, s, from, head);
     let m = (n - head) / 8;
     let i = (at + head) / 8;

@@ -38,11 +38,11 @@ module _ (s : List ℕ) {why : EmdfError} (h : reading s ≡ refusal why) where
       go false = a
 
   pub non-emdf : true ≡ isNonEmdf (classAnswer (classify s)) → line (ascii "nonemdf") [] ≡ classLines (classify s)
-  unfolding isNonEmdf classAnswer classLines
+  unfolding classAnswer classLines
   non-emdf = refused-class (λ c. true ≡ isNonEmdf (classAnswer c) → line (ascii "nonemdf") [] ≡ classLines c) (λ e. refl) (λ e. absurd (let z : _≡_ {A = ℕ} 0 1 = cc in omega arith))
 
   pub is-malformed : false ≡ isNonEmdf (classAnswer (classify s)) → line (ascii "malformed") (number why ∷ []) ≡ classLines (classify s)
-  unfolding isNonEmdf classAnswer classLines
+  unfolding classAnswer classLines
   is-malformed = refused-class (λ c. false ≡ isNonEmdf (classAnswer c) → line (ascii "malformed") (number why ∷ []) ≡ classLines c) (λ e. absurd (let z : _≡_ {A = ℕ} 0 1 = cc in omega arith)) (λ e. refl)
 
 -- ---- accepted: a carrier, and what follows it

@@ -8,7 +8,7 @@ use Rattle.emdf_format.specs.Syntax.{escape}
 use Rattle.emdf_format.specs.Contents.{_&_, isPresent, isOne, hasAligned, hasPriority, protectionLength}
 use Rattle.emdf_format.specs.Reader.{andThen, _>>=_, give, ask, choose, position, remaining, fromBits, bits, groupsFrom, variableBits, extendedValue, octets, present, flagged}
 use Rattle.emdf_format.specs.Reading.{reserved, sampleOffset, codecData, configControls, payloadConfig, payloadAfter, payloads, padding, containerEnd, container, consumed, reading}
-use Rattle.emdf_format.specs.Calls.{number, recordsOf, classOf, classify}
+use Rattle.emdf_format.specs.Calls.{recordsOf, classOf, classify}
 use Rattle.emdf_text.specs.Lines.{ascii, digits, decimal, spaced, line}
 use Rattle.emdfcheck.specs.Output.{recordLine, recordLines, parsedLines, classLines, output}
 
@@ -27,5 +27,5 @@ record Printed : Type 0 where
   pub trailed : output (A ++ 0x00 ∷ []) ≡ ascii "trailing 7 8\n"
 
 printed : Printed
-unfolding bitAt bitsValue bitLength bitsRemaining readBits escape _&_ isPresent isOne hasAligned hasPriority protectionLength andThen _>>=_ give ask choose position remaining fromBits bits groupsFrom variableBits extendedValue octets present flagged reserved sampleOffset codecData configControls payloadConfig payloadAfter payloads padding containerEnd container consumed reading number recordsOf classOf classify digits decimal spaced line recordLine recordLines parsedLines classLines output
+unfolding bitAt bitsValue bitLength bitsRemaining readBits escape _&_ isPresent isOne hasAligned hasPriority protectionLength andThen _>>=_ give ask choose position remaining fromBits bits groupsFrom variableBits extendedValue octets present flagged reserved sampleOffset codecData configControls payloadConfig payloadAfter payloads padding containerEnd container consumed reading recordsOf classOf classify digits decimal spaced line recordLine recordLines parsedLines classLines output
 printed = record { for-A = refl; for-B = refl; excess = refl; two-bytes = refl; one-byte = refl; trailed = refl }

@@ -12,7 +12,7 @@ use Rattle.openjoc_emdf.specs.Answers.{firstPayload}
 use Rattle.openjoc_emdf.specs.declared.CarrierClassification.{CarrierClassification}
 use Rattle.openjoc_emdf.specs.declared.CarrierClassification.the-variants.{NonEmdf, Parsed, TrailingData, Malformed}
 
-unfoldable pub isNonEmdf : CarrierClassification → Bool
+abbrev pub isNonEmdf : CarrierClassification → Bool
 isNonEmdf NonEmdf = true
 isNonEmdf (Parsed p) = false
 isNonEmdf (TrailingData n len) = false

@@ -36,7 +36,7 @@ use Rattle.joc_profile.proofs.Seen as seen-type
 -- ---- a turn of the loop
 
 count-more : (b : Seen) (k : ℕ) (x : PlacedConfig) → countOf b ≤ k → countOf (seenMore b x) ≤ k + 1
-unfolding seenMore countOf
+unfolding seenMore
 count-more Nothing k x h = omega arith
 count-more (One y) k x h = omega arith
 count-more (Several n) k x h = omega arith
@@ -50,7 +50,6 @@ count-next b id k r h = go b (eqb (r .id) id) h
     go b false h = omega arith
 
 pub none-seen : countOf Nothing ≤ 0
-unfolding countOf
 none-seen = omega arith
 
 -- ---- all of them
@@ -87,12 +86,12 @@ pub record Agrees (seen : Seen) (n : ℕ) (first : Option PlacedConfig) : Type 0
   pub count : countOf seen ≡ n
 
 one-agrees : (p : PlacedConfig) (n : ℕ) → Agrees (oneOf p n) (1 + n) (some p)
-unfolding oneOf placedOf countOf
+unfolding oneOf placedOf
 one-agrees p zero = record { place = refl; count = refl }
 one-agrees p (suc n) = record { place = rw (ne-eqb (1 + suc n) 1 (λ e. omega (arith, e))); count = omega arith }
 
 pub seen-agrees : (id k : ℕ) (xs : List Found) → Agrees (seenFrom Nothing id k xs) (countId id xs) (firstId id k xs)
-unfolding seenFrom countId firstId seenNext seenMore placedOf countOf
+unfolding seenFrom countId firstId seenNext seenMore placedOf
 seen-agrees id k [] = record { place = refl; count = refl }
 seen-agrees id k (x ∷ xs) = go (eqb (x .record-of .id) id) (seen-agrees id (k + 1) xs)
   where
@@ -150,7 +149,7 @@ never-refused xs is h = let e = sym is ∙ h in let w : _≡_ {A = ℕ} 0 1 = cc
 
 module _ (profile : JocValidationProfile) (s : List ℕ) where
   pub refused-verdict : {a : OpenAnswer} {why x : EmdfError} → a ≡ openAnswer s (reading s) → a ≡ OpenAnswer.Refused why → x ≡ openError a → JocProfileAnswer.Refused (Emdf x) ≡ verdict profile s
-  unfolding verdict verdictOn openError
+  unfolding verdict verdictOn
   refused-verdict {a} {why} {x} i h k = let z : x ≡ why = rw h at k in rw (unopened s (sym i ∙ h), z)
 
   module _ {n : ℕ} {c : Container} (read : reading s ≡ accepted n c) {a : PairAnswer} (is : a ≡ pairOf (c .found)) where

@@ -27,7 +27,7 @@ use Rattle.joc_profile.specs.declared.PairAnswer.the-variants.{Pair, Ref
 
 -- ---- the payloads with an id, one after another
 
-unfoldable pub countOf : Seen → ℕ
+abbrev pub countOf : Seen → ℕ
 countOf Nothing = 0
 countOf (One x) = 1
 countOf (Several n) = n
@@ -64,15 +64,15 @@ judgedPair profile o j = judged profile (placedOf o) (placedOf j) (JocProfileAns
 unfoldable pub passesAs : JocProfileValue → AllowedDeviation → Optional → Bool
 passesAs wanted allowed found = meets wanted found || lets allowed found
 
-unfoldable pub bitOf : Bool → ℕ
+abbrev pub bitOf : Bool → ℕ
 bitOf b = if b then 1 else 0
 
 -- ---- why an answer is refused: only refusals are asked
 
-unfoldable pub openError : OpenAnswer → EmdfError
+abbrev pub openError : OpenAnswer → EmdfError
 openError (OpenAnswer.Open p c) = ValueOverflow
 openError (OpenAnswer.Refused why) = why
 
-unfoldable pub pairError : PairAnswer → EmdfError
+abbrev pub pairError : PairAnswer → EmdfError
 pairError (Pair o j) = ValueOverflow
 pairError (Refused why) = why

@@ -83,6 +83,16 @@ bit-past : (s : List ℕ) (p : ℕ) → length s * 8 ≤ p → bitAt s p ≡ 0
 unfolding bitAt
 bit-past s p h = rw (List·getD-eq-default s 0 {n = p / 8} (omega arith), zero-div)
 
+-- the octet that starts r bits into the byte i
+pub octet-value : (s : List ℕ) (i r : ℕ) → r < 8 → getD s i 0 < 2 ^ 8 → getD s (i + 1) 0 < 2 ^ 8 → (getD s i 0 * 256 + getD s (i + 1) 0) / 2 ^ (8 - r) % 256 ≡ bitsValue s (i * 8 + r) 8
+octet-value s i r h a b =
+    let z : (i + 1) * 8 ≡ i * 8 + 8 = omega arith in
+    let e : r + 8 + (8 - r) ≡ 16 = omega arith in
+    let y : bitsValue s (i * 8 + 8) 8 ≡ getD s (i + 1) 0 = rw z at (value-byte s (i + 1) b) in
+    let w : getD s i 0 * 256 + getD s (i + 1) 0 ≡ bitsValue s (i * 8) (r + 8 + (8 - r)) = sym (ap (bitsValue s (i * 8)) e ∙ value-split s (i * 8) 8 8 ∙ rw (value-byte s i a, y)) in
+    rw (w, value-split s (i * 8) (r + 8) (8 - r), high (bitsValue s (i * 8) (r + 8)) (8 - r) (value-range s (i * 8 + (r + 8)) (8 - r)), value-split s (i * 8) r 8)
+    (low (bitsValue s (i * 8) r) 8 (value-range s (i * 8 + r) 8))
+
 pub value-past : (s : List ℕ) (p w : ℕ) → length s * 8 ≤ p → bitsValue s p w ≡ 0
 unfolding bitsValue
 value-past s p zero h = refl

@@ -68,7 +68,7 @@ byteAlign s c =
     else AlignAnswer.Refused (EndOfInput (toByte (c .position)) (bitsRemaining s c))
 
 -- document 01's number for a refusal, and its figures
-unfoldable pub number : BitError → ℕ
+abbrev pub number : BitError → ℕ
 number (EndOfInput n r) = 3
 number (InvalidWidth w) = 4
 

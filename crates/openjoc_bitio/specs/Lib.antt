@@ -1,4 +1,3 @@
 pub mod Choice
 pub mod Bits
 pub mod Cursor
-pub mod Reader

@@ -1,5 +1,5 @@
 use borrow.Author.Needs.{needs}
-use Rattle.openjoc_bitio.specs.Cursor.{number, figures}
+use Rattle.openjoc_bitio.specs.Cursor.{figures}
 use Rattle.emdf_answers.proofs.bit_figures.Statement.{statement}
 use Rattle.emdf_answers.proofs.bit_figures.Tie as tie
 
@@ -19,11 +19,11 @@ with-figures-requires-2 : tie.Need-with-figures-requires-2
 with-figures-requires-2 c κs = search needs
 
 returns : tie.Need-returns
-unfolding number figures
+unfolding figures
 returns c = rw (c .before .before .why .given .1) (c .with-figures .ensures)
 
 returns-2 : tie.Need-returns-2
-unfolding number figures
+unfolding figures
 returns-2 c = rw (c .before .before .why2 .given .1) (c .with-figures2 .ensures)
 
 pub bit-figures-spec : {M : Type 1} → statement M

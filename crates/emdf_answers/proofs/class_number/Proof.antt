@@ -4,7 +4,7 @@ use mathlib.Core.Logic.{⊎-elim}
 use native.Mathlib.Omega.{arith}
 use Rattle.openjoc_emdf.specs.declared.CarrierClassification.{CarrierClassification}
 use Rattle.openjoc_emdf.specs.declared.CarrierClassification.the-variants as CarrierClassification
-use Rattle.emdf_answers.specs.Carriers.{classReturned}
+use Rattle.emdf_answers.specs.Carriers.{classNumber}
 use Rattle.emdf_answers.proofs.class_number.Statement.{statement}
 use Rattle.emdf_answers.proofs.class_number.Tie as tie
 
@@ -15,14 +15,14 @@ emdf-figures-requires : tie.Need-emdf-figures-requires
 emdf-figures-requires c κs = search needs
 
 returns : tie.Need-returns
-unfolding classReturned
+unfolding classNumber
 returns c = rw (c .before .before .class .given .1, c .emdf-figures .ensures)
 
 returns-2 : tie.Need-returns-2
-unfolding classReturned
+unfolding classNumber
 returns-2 c = go (c .before .args .class) refl
   where
-    go : (x : CarrierClassification) → c .before .args .class ≡ x → 0 ≡ classReturned x
+    go : (x : CarrierClassification) → c .before .args .class ≡ x → 0 ≡ classNumber x
     go CarrierClassification.NonEmdf h = refl
     go (CarrierClassification.Parsed p) h = refl
     go (CarrierClassification.TrailingData n len) h = refl

@@ -3,7 +3,7 @@ use mathlib.Core.Path.{ap, _∙_}
 use mathlib.Core.List.{List, _∷_}
 use Prim.Native.Nat.{ℕ}
 use Rattle.emdf_format.specs.Calls.{number, figures}
-use Rattle.emdf_answers.specs.Carriers.{padded, classListed}
+use Rattle.emdf_answers.specs.Carriers.{padded, classWords}
 use Rattle.emdf_answers.proofs.Carriers.{two-figures, figured-words}
 use Rattle.emdf_answers.proofs.class_words.Statement.{statement}
 use Rattle.emdf_answers.proofs.class_words.Tie as tie
@@ -45,19 +45,19 @@ with-class-requires-3 : tie.Need-with-class-requires-3
 with-class-requires-3 c κs = search needs
 
 returns : tie.Need-returns
-unfolding classListed padded
+unfolding classWords padded
 returns c = rw (c .enum-told .given .1)
 
 returns-2 : tie.Need-returns-2
-unfolding classListed
+unfolding classWords
 returns-2 c = c .with-class .ensures ∙ rw (c .before .before .before .class .given .1, c .before .parsed-words .ensures)
 
 returns-3 : tie.Need-returns-3
-unfolding classListed padded
+unfolding classWords padded
 returns-3 c = c .with-class2 .ensures ∙ rw (c .before .before .before .before .class2 .given .1, c .before .figure-words .ensures, c .before .before .with-figures .ensures)
 
 returns-4 : tie.Need-returns-4
-unfolding classListed padded
+unfolding classWords padded
 returns-4 c =
     let k = c .before .before .before .before .class3 .given in
     c .with-class3 .ensures ∙ rw (k .1, c .before .figure-words2 .ensures) (ap (λ (l : List ℕ). 3 ∷ l) (figured-words (number (k .0 .0)) (figures (k .0 .0)) (two-figures (k .0 .0)) (c .before .before .emdf-figures .ensures)))

@@ -1,5 +1,5 @@
 use borrow.Author.Needs.{needs}
-use Rattle.emdf_format.specs.Calls.{number, figures}
+use Rattle.emdf_format.specs.Calls.{figures}
 use Rattle.emdf_answers.proofs.emdf_figures.Statement.{statement}
 use Rattle.emdf_answers.proofs.emdf_figures.Tie as tie
 
@@ -85,47 +85,47 @@ with-figures-requires-10 : tie.Need-with-figures-requires-10
 with-figures-requires-10 c κs = search needs
 
 returns : tie.Need-returns
-unfolding number figures
+unfolding figures
 returns c = rw (c .before .before .why .given .1) (c .with-figures .ensures)
 
 returns-2 : tie.Need-returns-2
-unfolding number figures
+unfolding figures
 returns-2 c = rw (c .before .before .why2 .given .1) (c .with-figures2 .ensures)
 
 returns-3 : tie.Need-returns-3
-unfolding number figures
+unfolding figures
 returns-3 c = rw (c .before .before .why3 .given .1) (c .bit-figures .ensures)
 
 returns-4 : tie.Need-returns-4
-unfolding number figures
+unfolding figures
 returns-4 c = rw (c .before .before .why4 .given .1) (c .with-figures3 .ensures)
 
 returns-5 : tie.Need-returns-5
-unfolding number figures
+unfolding figures
 returns-5 c = rw (c .before .before .why5 .given .1) (c .with-figures4 .ensures)
 
 returns-6 : tie.Need-returns-6
-unfolding number figures
+unfolding figures
 returns-6 c = rw (c .before .enum-told .given .1) (c .with-figures5 .ensures)
 
 returns-7 : tie.Need-returns-7
-unfolding number figures
+unfolding figures
 returns-7 c = rw (c .before .before .why6 .given .1) (c .with-figures6 .ensures)
 
 returns-8 : tie.Need-returns-8
-unfolding number figures
+unfolding figures
 returns-8 c = rw (c .before .enum-told2 .given .1) (c .with-figures7 .ensures)
 
 returns-9 : tie.Need-returns-9
-unfolding number figures
+unfolding figures
 returns-9 c = rw (c .before .enum-told3 .given .1) (c .with-figures8 .ensures)
 
 returns-10 : tie.Need-returns-10
-unfolding number figures
+unfolding figures
 returns-10 c = rw (c .before .before .why7 .given .1) (c .with-figures9 .ensures)
 
 returns-11 : tie.Need-returns-11
-unfolding number figures
+unfolding figures
 returns-11 c = rw (c .before .enum-told4 .given .1) (c .with-figures10 .ensures)
 
 pub emdf-figures-spec : {M : Type 1} → statement M

@@ -2,6 +2,7 @@ use borrow.Author.Needs.{needs}
 use mathlib.Core.Path.{sym, _∙_}
 use native.Mathlib.Omega.{arith}
 use denote.Ref.{now}
+use Rattle.emdf_bodies.proofs.Octets.{octets-copied}
 use Rattle.emdf_bodies.proofs.Calls.{Standing, standing, not-there, on-byte, no-room, in-scratch}
 use Rattle.emdf_bodies.proofs.move_body.Statement.{statement}
 use Rattle.emdf_bodies.proofs.move_body.Tie as tie
@@ -37,7 +38,7 @@ returns-3 c =
     (d .answer, d .after)
 
 copy-octets-requires : tie.Need-copy-octets-requires
-copy-octets-requires c κs = (omega (arith, there (c .before .before .before .before .before .before) .inside, c .before .before .before .if1 .left), c .before .if2 .left)
+copy-octets-requires c κs = (omega arith, omega (arith, there (c .before .before .before .before .before .before) .inside))
 
 same-length : tie.Need-same-length
 same-length c = search needs
@@ -47,7 +48,8 @@ returns-4 c =
     let e = c .before .before .before .before in
     let a = e .before .before .before .before .before in
     let d = in-scratch _ _ (now (a .before .before .before .before .before .args .scratch)) (there a) (e .before .before .if1 .left) (e .if2 .left) in
-    (d .answer, c .before .before .copy-octets .ensures ∙ d .after)
+    let copied = octets-copied _ _ _ _ _ (λ k. a .before .before .before .slice-known .given k .fits) (λ k. c .slice-known2 .given k .fits) (e .if2 .left) (omega (arith, there a .inside)) (c .before .before .copy-octets .ensures) in
+    (d .answer, copied ∙ d .after)
 
 pub move-body-spec : {M : Type 1} → statement M
 move-body-spec =

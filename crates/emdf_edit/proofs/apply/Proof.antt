@@ -7,7 +7,7 @@ use lib.Seq.{length-take-le}
 use denote.Ref.{now}
 use Rattle.emdf_format.specs.Edits.{Edit}
 use Rattle.emdf_plan.specs.Plan.{editOf, newBits}
-use Rattle.emdf_edit.specs.Fields.{Within}
+use Rattle.emdf_edit.specs.Cuts.{Within}
 use Rattle.emdf_plan.proofs.Spliced.{Spliceable, plan-splice}
 use Rattle.emdf_edit.proofs.Edited.{refused, within, room, spliced-answer}
 use Rattle.emdf_edit.proofs.apply.Statement.{statement}

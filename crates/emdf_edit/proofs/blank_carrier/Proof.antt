@@ -8,7 +8,7 @@ use lib.Seq.{length-take-le}
 use Rattle.emdf_format.specs.Edits.{carrierLength}
 use Rattle.emdf_format.proofs.Standing.{fails, holds}
 use Rattle.emdf_measure.specs.Parts.{writableProtection}
-use Rattle.emdf_edit.specs.Fields.{blankContents}
+use Rattle.emdf_edit.specs.Cuts.{blankContents}
 use Rattle.emdf_edit.proofs.Blank.{writable-short, not-writable, no-room, in-room, front-written}
 use Rattle.emdf_edit.proofs.blank_carrier.Statement.{statement}
 use Rattle.emdf_edit.proofs.blank_carrier.Tie as tie

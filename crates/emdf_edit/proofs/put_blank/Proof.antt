@@ -3,7 +3,7 @@ use Prim.Native.Nat.{_+_, _-_, _*_}
 use native.Mathlib.Omega.{arith}
 use denote.Ref.{now}
 use Rattle.openjoc_bitio.proofs.Bits.{length-number}
-use Rattle.emdf_edit.proofs.Putting.{then-put}
+use Rattle.emdf_field_writer.proofs.Putting.{then-put}
 use Rattle.emdf_edit.proofs.Blank.{blank-size, blank-bits}
 use Rattle.emdf_edit.proofs.put_blank.Statement.{statement}
 use Rattle.emdf_edit.proofs.put_blank.Tie as tie

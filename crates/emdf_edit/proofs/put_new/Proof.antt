@@ -1,7 +1,7 @@
 use borrow.Author.Needs.{needs}
 use native.Mathlib.Omega.{arith}
 use Rattle.emdf_plan.specs.Plan.{editOf, newBits}
-use Rattle.emdf_edit.proofs.Putting.{none-put}
+use Rattle.emdf_field_writer.proofs.Putting.{none-put}
 use Rattle.emdf_edit.proofs.put_new.Statement.{statement}
 use Rattle.emdf_edit.proofs.put_new.Tie as tie
 

@@ -2,7 +2,7 @@ use borrow.Author.Needs.{needs}
 use Prim.Native.Nat.{_+_, _-_, _*_}
 use native.Mathlib.Omega.{arith}
 use Rattle.openjoc_bitio.proofs.Bits.{length-number}
-use Rattle.emdf_edit.proofs.Putting.{then-put}
+use Rattle.emdf_field_writer.proofs.Putting.{then-put}
 use Rattle.emdf_edit.proofs.Edited.{splice-sizes, splice-bits}
 use Rattle.emdf_edit.proofs.put_splice.Statement.{statement}
 use Rattle.emdf_edit.proofs.put_splice.Tie as tie

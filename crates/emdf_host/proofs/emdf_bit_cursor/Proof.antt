@@ -14,7 +14,7 @@ put-reply-requires c κs = search needs
 
 returns : tie.Need-returns
 unfolding newReply
-returns c = rw (← c .before .before .new .ensures, ← c .before .accepted-at .ensures) (c .put-reply .ensures)
+returns c = rw (c .before .accepted-at .ensures, c .before .before .new .ensures) at (c .put-reply .ensures)
 
 pub emdf-bit-cursor-spec : {M : Type 1} → statement M
 emdf-bit-cursor-spec =

@@ -14,7 +14,7 @@ put-reply-requires c κs = search needs
 
 returns : tie.Need-returns
 unfolding remainingReply
-returns c = rw (← c .before .before .before .bits-remaining .ensures, ← c .before .accepted-at .ensures) (c .put-reply .ensures)
+returns c = rw (c .before .accepted-at .ensures, c .before .before .before .bits-remaining .ensures) at (c .put-reply .ensures)
 
 pub emdf-bits-remaining-spec : {M : Type 1} → statement M
 emdf-bits-remaining-spec =

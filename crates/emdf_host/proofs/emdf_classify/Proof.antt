@@ -1,9 +1,8 @@
 use borrow.Author.Needs.{needs}
 use mathlib.Core.Path.{ap, _∙_}
 use Rattle.emdf_answers.specs.Form.{words}
-use Rattle.emdf_answers.specs.Carriers.{classReturned, classListed}
-use Rattle.emdf_answers.proofs.Carriers.{class-returned, class-listed}
-use Rattle.emdf_host.proofs.Stored.{words-whole}
+use Rattle.emdf_answers.specs.Carriers.{classNumber, classWords}
+use Rattle.emdf_rows.proofs.Stored.{words-whole}
 use Rattle.emdf_host.proofs.emdf_classify.Statement.{statement}
 use Rattle.emdf_host.proofs.emdf_classify.Tie as tie
 
@@ -25,7 +24,7 @@ class-number-requires c κs = search needs
 returns : tie.Need-returns
 returns c =
     let k = c .before .before .before .before .before .classify-emdf-carrier .ensures in
-    (c .class-number .ensures ∙ ap classReturned k ∙ class-returned _, c .before .put-words .ensures ∙ words-whole _ _ (search needs) ∙ ap words (c .before .before .before .before .class-words .ensures ∙ ap classListed k ∙ class-listed _))
+    (c .class-number .ensures ∙ ap classNumber k, c .before .put-words .ensures ∙ words-whole _ _ (search needs) ∙ ap words (c .before .before .before .before .class-words .ensures ∙ ap classWords k))
 
 pub emdf-classify-spec : {M : Type 1} → statement M
 emdf-classify-spec =

@@ -1,7 +1,7 @@
 use borrow.Author.Needs.{needs}
 use mathlib.Core.Path.{ap, _∙_}
 use Rattle.emdf_answers.specs.Form.{words}
-use Rattle.emdf_host.proofs.Stored.{words-whole}
+use Rattle.emdf_rows.proofs.Stored.{words-whole}
 use Rattle.emdf_host.proofs.emdf_verdict.Statement.{statement}
 use Rattle.emdf_host.proofs.emdf_verdict.Tie as tie
 

@@ -6,7 +6,8 @@ use lib.Seq.{sets}
 use Rattle.openjoc_bitio.specs.Bits.{bitsValue}
 use Rattle.emdf_format.specs.Syntax.{octetBits}
 use Rattle.emdf_writer.specs.Writing.{bitRun}
-use Rattle.emdf_writer.proofs.Run.{octet-value, octets-start, octets-more, run-none}
+use Rattle.openjoc_bitio.proofs.Bits.{octet-value}
+use Rattle.emdf_writer.proofs.Run.{octets-start, octets-more, run-none}
 use Rattle.emdf_writer.proofs.copy_shifted.Statement.{statement}
 use Rattle.emdf_writer.proofs.copy_shifted.Tie as tie
 

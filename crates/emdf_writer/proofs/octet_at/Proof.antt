@@ -5,7 +5,7 @@ use native.Mathlib.Omega.{arith}
 use denote.Ref.{now}
 use lib.ListN.{getD}
 use Rattle.openjoc_bitio.specs.Bits.{bitsValue}
-use Rattle.emdf_writer.proofs.Run.{octet-value}
+use Rattle.openjoc_bitio.proofs.Bits.{octet-value}
 use Rattle.emdf_writer.proofs.octet_at.Statement.{statement}
 use Rattle.emdf_writer.proofs.octet_at.Tie as tie
 

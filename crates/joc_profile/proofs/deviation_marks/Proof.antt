@@ -1,7 +1,6 @@
 use borrow.Author.Needs.{needs}
 use native.Mathlib.Omega.{arith}
 use Rattle.emdf_format.specs.Profile.{deviations, table56, marks, deviates, word}
-use Rattle.joc_profile.specs.Pair.{bitOf}
 use Rattle.joc_profile.proofs.deviation_marks.Statement.{statement}
 use Rattle.joc_profile.proofs.deviation_marks.Tie as tie
 
@@ -30,7 +29,7 @@ add-result-2 : tie.Need-add-result-2
 add-result-2 c = search needs
 
 returns : tie.Need-returns
-unfolding deviations table56 marks deviates word bitOf
+unfolding deviations table56 marks deviates word
 returns c =
     let u = rw (c .before .before .before .differs .ensures) at (c .before .before .bit .ensures .0) in
     omega (arith, u, c .before .config-marks .ensures, c .config-marks2 .ensures)

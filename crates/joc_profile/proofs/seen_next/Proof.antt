@@ -1,7 +1,7 @@
 use borrow.Author.Needs.{needs}
 use native.Mathlib.Omega.{arith}
 use borrow.Author.Tests.{eq-eqb, ne-eqb}
-use Rattle.joc_profile.specs.Pair.{countOf, seenMore, seenNext}
+use Rattle.joc_profile.specs.Pair.{seenMore, seenNext}
 use Rattle.joc_profile.proofs.seen_next.Statement.{statement}
 use Rattle.joc_profile.proofs.seen_next.Tie as tie
 
@@ -22,7 +22,6 @@ enum-known-before : tie.Need-enum-known-before
 enum-known-before c = search needs
 
 add-t10 : tie.Need-add-t10
-unfolding countOf
 add-t10 c =
     let h = rw (c .before .before2 .given .1) at (c .before .before .before .before .before .pre .0) in
     omega (arith, h)

@@ -1,0 +1,193 @@
+// Answers and payloads' rows, stored as numbers of 8 bytes into a host's bytes.
+ghost use mathlib.Core.Path.{_≡_};
+ghost use mathlib.Core.List.{List, [], _∷_};
+ghost use Prim.Native.Nat.{_+_, _*_, _^_, _≤_, _<_};
+ghost use lib.ListN.{length};
+ghost use lib.Seq.{sets};
+ghost use Rattle.openjoc_bitio.specs.declared.BitCursor.{BitCursor};
+ghost use Rattle.emdf_format.specs.declared.PayloadRecord.{PayloadRecord};
+ghost use Rattle.emdf_format.specs.Reading.{Found};
+ghost use Rattle.emdf_format.specs.Calls.{recordsOf};
+ghost use Rattle.openjoc_emdf.proofs.Walk.{Listed, stepAt};
+ghost use Rattle.openjoc_emdf.specs.Compact.{compactRecord};
+ghost use Rattle.openjoc_emdf.specs.declared.PayloadStep.the-variants.{Payload};
+ghost use Rattle.emdf_answers.specs.Form.{bigEndian, words};
+ghost use Rattle.emdf_answers.specs.Bits.{replyBytes};
+ghost use Rattle.emdf_answers.specs.Carriers.{padded, recordWords, rowsBytes, moveNumber, moveWords};
+ghost use Rattle.emdf_answers.specs.Edits.{editedNumber, editedWords};
+use emdf_answers::BitReply;
+use emdf_answers::Figures;
+use emdf_format::BodyAnswer;
+use emdf_format::EditAnswer;
+use emdf_format::PayloadRecord;
+use openjoc_bitio::BitCursor;
+use openjoc_emdf::PayloadStep;
+
+// A payload's row: 27 numbers.
+pub const ROW_BYTES: usize = 216;
+
+pub fn put_reply(answer: &mut [u8; 48], reply: BitReply) -> u32
+    ensures { λ r. ⌜ (r ≡ reply .number) × (now (answer .exit) ≡ replyBytes reply) ⌝ }
+{
+    let values = [
+        reply.first,
+        reply.second,
+        reply.cursor.position as u64,
+        reply.cursor.end as u64,
+        reply.window.position as u64,
+        reply.window.end as u64,
+    ];
+    put_words(answer, 0, &values);
+    reply.number
+}
+
+pub fn put_refusal(answer: &mut [u8; 72], f: Figures) -> u32
+    ensures { λ r. ⌜ (r ≡ f .number) × (now (answer .exit) ≡ words (padded 9 (f .first ∷ f .second ∷ []))) ⌝ }
+{
+    put_nine(answer, f.number, emdf_answers::figure_words(f))
+}
+
+pub fn put_nine(answer: &mut [u8; 72], number: u32, values: [u64; 9]) -> u32
+    ensures { λ r. ⌜ (r ≡ number) × (now (answer .exit) ≡ words values) ⌝ }
+{
+    put_words(answer, 0, &values);
+    number
+}
+
+// A row for each of count payloads, the first of which stands at c.
+pub fn put_rows(table: &mut [u8], s: &[u8], c: BitCursor, count: usize)
+    requires { ⌜ count * 216 ≤ length (now table) ⌝ }
+    ensures { λ _. ⌜ ((xs : List Found) → Listed (now (s .entry)) c xs → length xs ≡ count → now (table .exit) ≡ sets (now (table .entry)) 0 (rowsBytes (recordsOf xs))) ⌝ }
+{
+    let mut at = c;
+    let mut place: usize = 0;
+    while place < count {
+        at = put_next(table, place * ROW_BYTES, s, at);
+        place += 1;
+    }
+}
+
+// The row of the payload at c, and the cursor past it.
+fn put_next(table: &mut [u8], row: usize, s: &[u8], c: BitCursor) -> BitCursor
+    requires { ⌜ row + 216 ≤ length (now table) ⌝ }
+    ensures { λ r. ⌜ ((found : PayloadRecord) (next : BitCursor) → stepAt (now (s .entry)) c ≡ Payload found next → (now (table .exit) ≡ sets (now (table .entry)) row (words (recordWords found))) × (r ≡ next)) ⌝ }
+{
+    let p = c.position;
+    let end = c.end;
+    // So that no sum below is too large.
+    if 0x2000_0000_0000_0000 <= p {
+        return put_found(table, row, s, BitCursor { position: p, end });
+    }
+    let x = openjoc_bitio::window_at(s, p);
+    let head = emdf_settings::head_length(x) as usize;
+    if head <= 5 {
+        return put_found(table, row, s, BitCursor { position: p, end });
+    }
+    let y = openjoc_bitio::window_at(s, p + head);
+    let size = emdf_settings::size_length(y) as usize;
+    if size == 0 {
+        return put_found(table, row, s, BitCursor { position: p, end });
+    }
+    let n = head + size + (emdf_settings::size_value(y) as usize) * 8;
+    if (BitCursor { position: p, end }).bits_remaining(s) < n {
+        return put_found(table, row, s, BitCursor { position: p, end });
+    }
+    put_compact(table, row, x, p, head, size, n);
+    BitCursor {
+        position: p + n,
+        end,
+    }
+}
+
+// The row of a compact payload, whose id and settings are in the word x.
+fn put_compact(table: &mut [u8], row: usize, x: u64, p: usize, head: usize, size: usize, n: usize)
+    requires { ⌜ (row + 216 ≤ length (now table)) × (5 ≤ head) × (head + size ≤ n) × (p + n < 2 ^ 64) ⌝ }
+    ensures { λ _. ⌜ now (table .exit) ≡ sets (now (table .entry)) row (words (recordWords (compactRecord x p head size n))) ⌝ }
+{
+    let config = emdf_settings::compact_config(x << 5);
+    let trace = openjoc_emdf::bit_trace(p, p + 5, p + head, p + head + size, p + n);
+    put_record(
+        table,
+        row,
+        PayloadRecord {
+            id: x >> 59,
+            config,
+            trace,
+        },
+    );
+}
+
+// The row of any payload, by its record.
+fn put_found(table: &mut [u8], row: usize, s: &[u8], c: BitCursor) -> BitCursor
+    requires { ⌜ row + 216 ≤ length (now table) ⌝ }
+    ensures { λ r. ⌜ ((found : PayloadRecord) (next : BitCursor) → stepAt (now (s .entry)) c ≡ Payload found next → (now (table .exit) ≡ sets (now (table .entry)) row (words (recordWords found))) × (r ≡ next)) ⌝ }
+{
+    let step = openjoc_emdf::next_payload(s, c);
+    let PayloadStep::Payload(record, next) = step else {
+        // An accepted carrier has a payload here.
+        return c;
+    };
+    put_record(table, row, record);
+    next
+}
+
+// The id, 18 numbers of settings, 8 of the trace.
+fn put_record(table: &mut [u8], at: usize, row: PayloadRecord)
+    requires { ⌜ at + 216 ≤ length (now table) ⌝ }
+    ensures { λ _. ⌜ now (table .exit) ≡ sets (now (table .entry)) at (words (recordWords row)) ⌝ }
+{
+    put_word(table, at, row.id);
+    let config = emdf_answers::config_words(row.config);
+    put_words(table, at + 8, &config);
+    let trace = emdf_answers::trace_words(row.trace);
+    put_words(table, at + 152, &trace);
+}
+
+pub fn put_moved(answer: &mut [u8; 16], moved: BodyAnswer) -> u32
+    ensures { λ r. ⌜ (r ≡ moveNumber moved) × (now (answer .exit) ≡ words (moveWords moved)) ⌝ }
+{
+    put_two(answer, emdf_answers::move_figures(moved))
+}
+
+fn put_two(answer: &mut [u8; 16], f: Figures) -> u32
+    ensures { λ r. ⌜ (r ≡ f .number) × (now (answer .exit) ≡ words (f .first ∷ f .second ∷ [])) ⌝ }
+{
+    let values = [f.first, f.second];
+    put_words(answer, 0, &values);
+    f.number
+}
+
+pub fn put_edited(answer: &mut [u8; 16], edited: EditAnswer) -> u32
+    ensures { λ r. ⌜ (r ≡ editedNumber edited) × (now (answer .exit) ≡ words (editedWords edited)) ⌝ }
+{
+    put_two(answer, emdf_answers::edited_figures(edited))
+}
+
+// Numbers, 8 bytes each, from index at on.
+pub fn put_words(out: &mut [u8], at: usize, values: &[u64])
+    requires { ⌜ at + 8 * length (now values) ≤ length (now out) ⌝ }
+    ensures { λ _. ⌜ now (out .exit) ≡ sets (now (out .entry)) at (words (now (values .entry))) ⌝ }
+{
+    let mut i: usize = 0;
+    while i < values.len() {
+        put_word(out, at + 8 * i, values[i]);
+        i += 1;
+    }
+}
+
+// v in 8 bytes, the most significant first, from index at on.
+fn put_word(out: &mut [u8], at: usize, v: u64)
+    requires { ⌜ at + 8 ≤ length (now out) ⌝ }
+    ensures { λ _. ⌜ now (out .exit) ≡ sets (now (out .entry)) at (bigEndian 8 v) ⌝ }
+{
+    // The octets in the machine's order: the compiler joins the eight stores.
+    let x = openjoc_bitio::swap_octets(v);
+    out[at] = (x % 256) as u8;
+    out[at + 1] = ((x >> 8) % 256) as u8;
+    out[at + 2] = ((x >> 16) % 256) as u8;
+    out[at + 3] = ((x >> 24) % 256) as u8;
+    out[at + 4] = ((x >> 32) % 256) as u8;
+    out[at + 5] = ((x >> 40) % 256) as u8;
+    out[at + 6] = ((x >> 48) % 256) as u8;
+    out[at + 7] = ((x >> 56) % 256) as u8;
+}

@@ -1,0 +1,4 @@
+pub mod Held
+pub mod Returned
+pub mod Stepped
+pub mod Walk
