@@ -10,8 +10,6 @@ import said
 import usage
 from harness import try_case
 
-# Each kind in which the cases differ in numbers alone, of which a thinned run takes one in so many.
-ONE_IN = 20
 # Kinds of which each case has its own reason.
 KINDS = (editing.by_hand, editing.places, editing.partly, editing.spellings, editing.lengths, said.by_hand)
 
@@ -28,6 +26,8 @@ def unreads_alone():
     return said.alone(carriers.UNREADS)
 
 
+# Kinds in which the cases differ in numbers alone, of which a thinned run takes one in so many.
+ONE_IN = 20
 MANY = (
     editing.readings,
     editing.limits,

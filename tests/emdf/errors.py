@@ -101,8 +101,10 @@ def of_several():
     none = ["zero: no carrier: it starts with 0000 and not with the sync word 5838"]
     yield case("one is no carrier", ["info", "a", "zero", "b"], files, out=text(shown[0] + none + shown[1]), status=1)
     pair = SMALL["strict"]
-    lines = pair.verdict_lines("pair", "strict") + SMALL["a"].verdict_lines("a", "strict")
-    yield case("one is refused", ["verdict", "pair", "a"], files | {"pair": pair.data}, out=text(lines), status=1)
+    lines = SMALL["a"].verdict_lines("a", "strict") + pair.verdict_lines("pair", "strict")
+    yield case("one is refused", ["verdict", "a", "pair"], files | {"pair": pair.data}, out=text(lines), status=1)
+    words = ["verdict", "missing", "a", "pair"]
+    yield case("and one is missing", words, files | {"pair": pair.data}, out=text(lines), err=said, status=2)
 
 
 def in_order(command):
@@ -239,13 +241,14 @@ def links(command):
         with in_folder({"in": B, "target": b"as it was"}) as folder:
             os.symlink("target", os.path.join(folder, "out"))
             got = run(command, words + ["-o", "out"], folder)
-            yield name + ": OUT is a link", got + (standing(folder),), (b"", b"", 0, {"in": B, "target": data, "out": "link to target"})
+            left = {"in": B, "target": data, "out": "link to target"}
+            yield name + ": OUT is a link", got + (standing(folder),), (b"", b"", 0, left)
         with in_folder({"in": B}) as folder, in_folder({"target": b"as it was"}) as other:
             target = os.path.join(other, "target")
             os.symlink(target, os.path.join(folder, "out"))
-            got = run(command, words + ["-o", "out"], folder)
+            got = run(command, words + ["-o", "out"], folder) + (standing(folder), standing(other))
             left = {"in": B, "out": "link to " + target}
-            yield name + ": OUT is a link elsewhere", got + (standing(folder), standing(other)), (b"", b"", 0, left, {"target": data})
+            yield name + ": OUT is a link elsewhere", got, (b"", b"", 0, left, {"target": data})
         for target, reason in (("nowhere", "No such file or directory"), ("out", "Too many levels of symbolic links")):
             with in_folder({"in": B}) as folder:
                 os.symlink(target, os.path.join(folder, "out"))
@@ -253,6 +256,16 @@ def links(command):
                 said = ("emdf: out: a link that leads to no file: %s\n" % reason).encode()
                 wanted = (b"", said, 2, {"in": B, "out": "link to " + target})
                 yield "%s: OUT is a link to %s" % (name, target), got + (standing(folder),), wanted
+
+
+def removed(command):
+    """OUT leads to standard output, a file that has no name any more."""
+    for name, words, _ in WRITERS:
+        with in_folder({"in": B}) as folder, tempfile.TemporaryFile() as gone:
+            os.symlink("/proc/self/fd/1", os.path.join(folder, "out"))
+            got = run(command, words + ["-o", "out"], folder, stdout=gone) + (sorted(os.listdir(folder)), gone.read())
+            got += (os.path.islink(os.path.join(folder, "out")),)
+            yield name + ": OUT was removed", got, (b"", b"emdf: out: No such file or directory\n", 2, ["in", "out"], b"", True)
 
 
 def modes(command):
@@ -351,7 +364,8 @@ def names(command):
                 controls = [c for c in out if unicodedata.category(c) == "Cc"]
                 yield "name %r, %s in JSON" % (name, asked), (json.loads(out)["file"], controls), (in_json, ["\n"])
             got = run(command, ["body", word, "0"], folder)
-            yield "name %r, refused" % name, got, (b"", b"emdf: " + shown + b": refused, 16: no payload at this place\n", 1)
+            said = b"emdf: " + shown + b": refused, 16: no payload at this place\n"
+            yield "name %r, refused" % name, got, (b"", said, 1)
             os.remove(os.path.join(os.fsencode(folder), name))
             got = run(command, ["info", word], folder)
             yield "name %r, missing" % name, got, (b"", b"emdf: " + shown + b": No such file or directory\n", 2)
@@ -392,7 +406,7 @@ def some_of_each(command):
 
 
 GROUPS = (in_order, slowly, at_terminal, to_terminal, closed, on_full_device, on_full_disk) + (
-    no_place, links, modes, pipes, names, helps)
+    no_place, links, removed, modes, pipes, names, helps)
 
 
 def results(command, size):

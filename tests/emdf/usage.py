@@ -18,7 +18,7 @@ remove_duplicate priority processing_allowed""".split()
 
 def mistake(command, words, said):
     text = "emdf: %s: %s\n%s\n" % (command, said, USAGES[command])
-    return case("usage: %.60s" % " ".join([command] + words), [command] + words, {"in": B}, err=text.encode(), status=2)
+    return case("usage: %.60r" % " ".join([command] + words), [command] + words, {"in": B}, err=text.encode(), status=2)
 
 
 def of_files():
