@@ -23,6 +23,27 @@ int take_output(const char *command, char **words, const char **out)
     return 1;
 }
 
+int take_flag(char **words, const char *name)
+{
+    char **kept = words;
+    int count = 0;
+    for (; *words; words++) {
+        if (strcmp(*words, name))
+            *kept++ = *words;
+        else
+            count++;
+    }
+    *kept = NULL;
+    return count;
+}
+
+const char *find_option(char **words)
+{
+    while (*words && ((*words)[0] != '-' || !(*words)[1]))
+        words++;
+    return *words;
+}
+
 int parse_number(const char *text, uint64_t *value)
 {
     *value = 0;

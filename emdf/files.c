@@ -127,7 +127,7 @@ static int take_over(int file, const struct stat *old)
     umask(mask);
     if (old && fchown(file, old->st_uid, old->st_gid))
         errno = 0; /* another's file, which its group or all may write */
-    return !fchmod(file, old ? old->st_mode & 07777 : 0666 & ~mask);
+    return !fchmod(file, old ? old->st_mode & 0777 : 0666 & ~mask);
 }
 
 static void sync_folder(const char *folder)

@@ -1,6 +1,5 @@
 /* emdf info: what stands in a file. */
 #include <inttypes.h>
-#include <string.h>
 
 #include "program.h"
 
@@ -277,12 +276,9 @@ static int show_file(const char *name, int is_json)
 
 int command_info(char **words)
 {
-    int is_json = 0, status = DONE;
-    for (; *words && (*words)[0] == '-' && (*words)[1]; words++) {
-        if (strcmp(*words, "--json"))
-            return usage_error("info", "no option %s", *words);
-        is_json = 1;
-    }
+    int is_json = take_flag(words, "--json"), status = DONE;
+    if (find_option(words))
+        return usage_error("info", "no option %s", find_option(words));
     if (!*words)
         return usage_error("info", "no file is named");
     for (; *words; words++) {

@@ -131,6 +131,12 @@ int usage_error(const char *command, const char *format, ...);
 /* Takes "-o OUT" out of words. OUT stays NULL where it isn't there. Answers 0 where OUT is missing or named twice. */
 int take_output(const char *command, char **words, const char **out);
 
+/* Takes the option out of words. Answers how often it was there. */
+int take_flag(char **words, const char *name);
+
+/* A word that starts with - and is more than that, or NULL. */
+const char *find_option(char **words);
+
 /* 0 where the text is no decimal number of 64 bits. */
 int parse_number(const char *text, uint64_t *value);
 

@@ -1,6 +1,5 @@
 /* Words, figures and names on standard output. */
 #include <inttypes.h>
-#include <string.h>
 
 #include "program.h"
 
@@ -36,20 +35,18 @@ void print_hex(const uint8_t *bytes, size_t length)
 
 /* ---- refusals */
 
-static int is_marks(const char *name)
-{
-    return !strcmp(name, "marks");
-}
-
 void print_refusal(FILE *out, uint32_t number, uint64_t first, uint64_t second)
 {
     const uint64_t figures[2] = {first, second};
     unsigned i;
     fprintf(out, "%" PRIu32 ": %s", number, emdf_refusal_text(number));
     for (i = 0; i < 2 && emdf_refusal_figure(number, i); i++) {
-        const char *name = emdf_refusal_figure(number, i);
-        fprintf(out, "%s%s ", i ? ", " : " (", name);
-        fprintf(out, is_marks(name) ? "0x%06" PRIx64 : "%" PRIu64, figures[i]);
+        int digits = emdf_refusal_figure_digits(number, i);
+        fprintf(out, "%s%s ", i ? ", " : " (", emdf_refusal_figure(number, i));
+        if (digits)
+            fprintf(out, "0x%0*" PRIx64, digits, figures[i]);
+        else
+            fprintf(out, "%" PRIu64, figures[i]);
     }
     if (i)
         fputc(')', out);

@@ -1,6 +1,5 @@
 /* emdf verdict, and what it says of a carrier. */
 #include <inttypes.h>
-#include <string.h>
 
 #include "program.h"
 
@@ -215,23 +214,16 @@ static int judge_file(const char *name, uint32_t profile, int is_json)
 
 int command_verdict(char **words)
 {
-    uint32_t profile = EMDF_STRICT;
-    int is_json = 0, is_said = 0, status = DONE;
-    for (; *words && (*words)[0] == '-' && (*words)[1]; words++) {
-        int is_strict = !strcmp(*words, "--strict"), is_compat = !strcmp(*words, "--compat");
-        if (!strcmp(*words, "--json"))
-            is_json = 1;
-        else if (!is_strict && !is_compat)
-            return usage_error("verdict", "no option %s", *words);
-        else if (is_said++)
-            return usage_error("verdict", "one of --strict and --compat");
-        else
-            profile = is_compat ? EMDF_COMPAT : EMDF_STRICT;
-    }
+    int is_json = take_flag(words, "--json"), strict = take_flag(words, "--strict"), compat = take_flag(words, "--compat");
+    int status = DONE;
+    if (find_option(words))
+        return usage_error("verdict", "no option %s", find_option(words));
+    if (strict + compat > 1)
+        return usage_error("verdict", "one of --strict and --compat");
     if (!*words)
         return usage_error("verdict", "no file is named");
     for (; *words; words++) {
-        int of_file = judge_file(*words, profile, is_json);
+        int of_file = judge_file(*words, compat ? EMDF_COMPAT : EMDF_STRICT, is_json);
         status = of_file > status ? of_file : status;
     }
     return status;

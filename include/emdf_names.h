@@ -15,6 +15,9 @@ const char *emdf_refusal_text(uint32_t number);
 /* The name of a refusal's first (i = 0) or second (i = 1) figure; NULL where it has none. */
 const char *emdf_refusal_figure(uint32_t number, unsigned i);
 
+/* How many hexadecimal digits the figure is best shown with; 0 where it is a number to count by. */
+int emdf_refusal_figure_digits(uint32_t number, unsigned i);
+
 /* The ten settings in their order in a row: the name, as emdf.h has it in its constants; NULL from 10 on. */
 #define EMDF_SETTING_COUNT 10
 const char *emdf_setting_name(unsigned i);

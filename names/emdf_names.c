@@ -28,7 +28,7 @@ static const struct refusal REFUSALS[] = {
     {"the table has too few rows", {"payloads", NULL}},
     {"not one OAMD and one JOC payload", {"oamd", "joc"}},
     {"the profile is not met", {"marks", "deviations"}},
-    {"no payload at this place", {NULL, NULL}},
+    {"no such place", {NULL, NULL}},
     {"the contents cannot be written", {NULL, NULL}},
     {"more than 65535 bytes to declare", {NULL, NULL}},
     {"the destination is too short", {"needed", NULL}},
@@ -50,6 +50,12 @@ const char *emdf_refusal_text(uint32_t number)
 const char *emdf_refusal_figure(uint32_t number, unsigned i)
 {
     return i < 2 ? find_refusal(number)->figures[i] : NULL;
+}
+
+/* A sync word, and marks. */
+int emdf_refusal_figure_digits(uint32_t number, unsigned i)
+{
+    return i ? 0 : number == EMDF_INVALID_SYNCWORD ? 4 : number == EMDF_CONFIGURATION ? 6 : 0;
 }
 
 /* ---- settings */

@@ -54,14 +54,19 @@ static void raise_status(struct panel *panel, int status)
 
 /* ---- refusals */
 
-/* number, words and figures by name; the marks of a verdict are shown as bits. */
+/* number, words and figures by name. */
 static void print_refusal(uint32_t number, const uint8_t *answer, size_t first)
 {
     unsigned i;
     printf("number=%" PRIu32 " words=\"%s\"", number, emdf_refusal_text(number));
-    for (i = 0; i < 2 && emdf_refusal_figure(number, i); i++)
-        printf(number == EMDF_CONFIGURATION && !i ? " %s=0x%06" PRIx64 : " %s=%" PRIu64, emdf_refusal_figure(number, i),
-               emdf_word(answer, first + i));
+    for (i = 0; i < 2 && emdf_refusal_figure(number, i); i++) {
+        int digits = emdf_refusal_figure_digits(number, i);
+        printf(" %s=", emdf_refusal_figure(number, i));
+        if (digits)
+            printf("0x%0*" PRIx64, digits, emdf_word(answer, first + i));
+        else
+            printf("%" PRIu64, emdf_word(answer, first + i));
+    }
     putchar('\n');
 }
 

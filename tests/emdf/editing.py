@@ -119,7 +119,7 @@ def by_hand():
     yield case("blank to standard output", ["blank", "primary=a5"], out=A)
     yield case("blank by itself: key id 0, primary protection 00", ["blank"], out=bytes.fromhex("58380003001000"))
     yield case("blank to -", ["blank", "-o", "-", "primary=a5"], out=A)
-    late = b"emdf: edit 2, drop 7: refused, 16: no payload at this place\n"
+    late = b"emdf: edit 2, drop 7: refused, 16: no such place\n"
     yield edit_case("a later edit is refused", "key 1 drop 7 key 2".split(), B, None, late, 1)
 
 
@@ -265,10 +265,10 @@ def spellings():
     yield case("OUT is FILE", ["edit", "in", "-o", "in", "drop", "0"], {"in": B}, left={"in": A})
     yield case("OUT is there", ["edit", "in", "-o", "out", "drop", "0"], {"in": B, "out": bytes(99)}, left={"out": A})
     files = {"in": B, "out": b"as it was"}
-    said = b"emdf: edit 1, drop 1: refused, 16: no payload at this place\n"
+    said = b"emdf: edit 1, drop 1: refused, 16: no such place\n"
     yield case("OUT is there and the edit refused", ["edit", "in", "-o", "out", "drop", "1"], files, err=said, status=1)
     yield case("OUT is FILE and the edit refused", ["edit", "in", "-o", "in", "drop", "0", "drop", "0"], {"in": B},
-               err=b"emdf: edit 2, drop 0: refused, 16: no payload at this place\n", status=1)
+               err=b"emdf: edit 2, drop 0: refused, 16: no such place\n", status=1)
     yield case("a FILE called as an edit is", ["edit", "drop", "-o", "key", "drop", "0"], {"drop": B}, left={"key": A})
     yield case("blank: the later word", ["blank", "key=1", "primary=00", "key=0", "primary=a5"], out=A)
 

@@ -364,14 +364,14 @@ def names(command):
                 controls = [c for c in out if unicodedata.category(c) == "Cc"]
                 yield "name %r, %s in JSON" % (name, asked), (json.loads(out)["file"], controls), (in_json, ["\n"])
             got = run(command, ["body", word, "0"], folder)
-            said = b"emdf: " + shown + b": refused, 16: no payload at this place\n"
+            said = b"emdf: " + shown + b": refused, 16: no such place\n"
             yield "name %r, refused" % name, got, (b"", said, 1)
             os.remove(os.path.join(os.fsencode(folder), name))
             got = run(command, ["info", word], folder)
             yield "name %r, missing" % name, got, (b"", b"emdf: " + shown + b": No such file or directory\n", 2)
         fill(folder, {"in": B, b"b\x1b\x7f": b""})
         got = run(command, ["edit", "in", "-o", "out", "body", "7", "@b\x1b\x7f"], folder)
-        yield "a body's name", got, (b"", b"emdf: edit 1, body 7 @b??: refused, 16: no payload at this place\n", 1)
+        yield "a body's name", got, (b"", b"emdf: edit 1, body 7 @b??: refused, 16: no such place\n", 1)
 
 
 # ---- the help

@@ -1,7 +1,7 @@
 """What emdf is to say of a file, by its man page and document 01. Spans come from the writer that wrote the carrier, verdicts
 from the model of the profile, refusals are stated with the files that meet them."""
 from models.profile import FIELDS, found, marks_word, verdict
-from models.refused import WORDS
+from models.refused import HEXADECIMAL, WORDS
 from models.writer import Writer
 from ruler import ruler
 
@@ -16,7 +16,7 @@ def counted(n, noun):
 def refusal_text(number, figures=()):
     words, *names = WORDS[number]
     assert len(names) == len(figures)
-    shown = ["%s %s" % (name, "0x%06x" % n if name == "marks" else n) for name, n in zip(names, figures)]
+    shown = ["%s %s" % (name, HEXADECIMAL.get(name, "%d") % n) for name, n in zip(names, figures)]
     return "%d: %s%s" % (number, words, " (%s)" % ", ".join(shown) if shown else "")
 
 

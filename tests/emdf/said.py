@@ -154,4 +154,4 @@ def by_hand():
     yield case("by hand: no group id", ["verdict", "--compat", "x"], pair(without, without), out=NO_GROUP_ID, status=1)
     yield case("by hand: JSON", ["verdict", "--json", "x"], pair(WANTED, without), out=JSON_OF_ONE, status=1)
     none = b'{"file":"zero","bytes":4,"class":"non-emdf"}\n'
-    yield case("by hand: --json twice", ["info", "--json", "--json", "zero"], {"zero": bytes(4)}, out=none, status=1)
+    yield case("by hand: --json twice, before and after", ["info", "--json", "zero", "--json"], {"zero": bytes(4)}, out=none, status=1)

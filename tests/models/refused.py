@@ -15,11 +15,14 @@ WORDS = {
     12: ("padding is not zero",),
     14: ("not one OAMD and one JOC payload", "oamd", "joc"),
     15: ("the profile is not met", "marks", "deviations"),
-    16: ("no payload at this place",),
+    16: ("no such place",),
     17: ("the contents cannot be written",),
     18: ("more than 65535 bytes to declare",),
     20: ("bytes after the carrier",),
 }
+
+# Figures that are shown as bits.
+HEXADECIMAL = {"marks": "0x%06x", "actual": "0x%04x"}
 
 A = bytes.fromhex("58380003001294")
 

@@ -1,14 +1,14 @@
 """What the panel is to answer of a file, by document 01. No code of the library or of the panel is used: spans come from
 the writer that wrote the carrier, verdicts from the model of the profile, refusals are stated with the carriers that meet them."""
 from models.profile import FIELDS, found, marks_word, verdict
-from models.refused import WORDS
+from models.refused import HEXADECIMAL, WORDS
 from models.writer import Writer
 
 
 def refusal(number, figures):
     words, *names = WORDS[number]
     assert len(names) == len(figures)
-    shown = ["%s=0x%06x" % pair if pair[0] == "marks" else "%s=%d" % pair for pair in zip(names, figures)]
+    shown = [name + "=" + HEXADECIMAL.get(name, "%d") % figure for name, figure in zip(names, figures)]
     return " ".join(['number=%d words="%s"' % (number, words)] + shown)
 
 
