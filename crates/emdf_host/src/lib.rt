@@ -10,9 +10,9 @@ ghost use Rattle.emdf_format.specs.Reading.{Found, reading};
 ghost use Rattle.emdf_format.specs.Calls.{recordsOf, classify, moveBody, foundAt, scratchAfter};
 ghost use Rattle.emdf_format.specs.Profile.{verdict};
 ghost use Rattle.emdf_format.specs.Edits.{bodyEdit, settingsEdit, dropEdit, insertEdit, keyEdit, protectionEdit, edited, blank};
-ghost use Rattle.openjoc_emdf.proofs.Walk.{Listed, stepAt};
-ghost use Rattle.openjoc_emdf.specs.Compact.{compactRecord};
-ghost use Rattle.openjoc_emdf.specs.declared.PayloadStep.the-variants.{Payload};
+ghost use Rattle.emdf_payloads.specs.Payloads.{Listed, stepAt};
+ghost use Rattle.emdf_payloads.specs.Compact.{compactRecord};
+ghost use Rattle.emdf_payloads.specs.declared.PayloadStep.the-variants.{Payload};
 ghost use Rattle.emdf_answers.specs.Form.{bigEndian, words};
 ghost use Rattle.emdf_answers.specs.Bits.{replyBytes, newReply, remainingReply, readBitsReply, readBitReply, takeBitsReply, byteAlignReply};
 ghost use Rattle.emdf_answers.specs.Fields.{variableBitsReply};
@@ -25,9 +25,9 @@ use emdf_answers::Figures;
 use emdf_format::BodyAnswer;
 use emdf_format::EditAnswer;
 use emdf_format::PayloadRecord;
+use emdf_payloads::PayloadStep;
 use openjoc_bitio::BitCursor;
 use openjoc_emdf::OpenAnswer;
-use openjoc_emdf::PayloadStep;
 
 // A payload's row: 27 numbers.
 const ROW_BYTES: usize = 216;
@@ -80,7 +80,10 @@ pub extern "C" fn emdf_read_bit(
     ensures { λ r. ⌜ (r ≡ readBitReply (now (bytes .entry)) position end .number) × (now (answer .exit) ≡ replyBytes (readBitReply (now (bytes .entry)) position end)) ⌝ }
 {
     let cursor = BitCursor { position, end };
-    put_reply(answer, emdf_answers::bit_reply(cursor, cursor.read_bit(bytes)))
+    put_reply(
+        answer,
+        emdf_answers::bit_reply(cursor, cursor.read_bit(bytes)),
+    )
 }
 
 #[no_mangle]
@@ -131,7 +134,7 @@ pub extern "C" fn emdf_variable_bits(
     let cursor = BitCursor { position, end };
     put_reply(
         answer,
-        emdf_answers::field_reply(openjoc_emdf::variable_bits(bytes, cursor, width, limit)),
+        emdf_answers::field_reply(emdf_fields::variable_bits(bytes, cursor, width, limit)),
     )
 }
 
@@ -377,7 +380,7 @@ fn put_compact(table: &mut [u8], row: usize, x: u64, p: usize, head: usize, size
     ensures { λ _. ⌜ now (table .exit) ≡ sets (now (table .entry)) row (words (recordWords (compactRecord x p head size n))) ⌝ }
 {
     let config = emdf_settings::compact_config(x << 5);
-    let trace = openjoc_emdf::bit_trace(p, p + 5, p + head, p + head + size, p + n);
+    let trace = emdf_payloads::bit_trace(p, p + 5, p + head, p + head + size, p + n);
     put_record(
         table,
         row,
@@ -394,7 +397,7 @@ fn put_found(table: &mut [u8], row: usize, s: &[u8], c: BitCursor) -> BitCursor
     requires { ⌜ row + 216 ≤ length (now table) ⌝ }
     ensures { λ r. ⌜ ((found : PayloadRecord) (next : BitCursor) → stepAt (now (s .entry)) c ≡ Payload found next → (now (table .exit) ≡ sets (now (table .entry)) row (words (recordWords found))) × (r ≡ next)) ⌝ }
 {
-    let step = openjoc_emdf::next_payload(s, c);
+    let step = emdf_payloads::next_payload(s, c);
     let PayloadStep::Payload(record, next) = step else {
         // An accepted carrier has a payload here.
         return c;

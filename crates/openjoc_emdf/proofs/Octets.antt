@@ -24,8 +24,9 @@ use Rattle.emdf_format.specs.Reading.{padding}
 use Rattle.emdf_format.specs.declared.EmdfError.the-variants.{Bit, ExcessPadding, NonzeroPadding}
 use Rattle.emdf_format.proofs.Standing.{bitLimit, remaining-limit, T-of, T-not-of, bind-go, ask-go, ask-refuses, ask-fine}
 use Rattle.emdf_format.proofs.Loops.{bits-there, octets-there, octets-short}
-use Rattle.openjoc_emdf.specs.Answers.{bytesNumber, protectionBytes, bytesAnswer, valueThere, cursorAnswer, paddingAnswer}
-use Rattle.openjoc_emdf.specs.declared.CursorAnswer.the-variants as CursorAnswer
+use Rattle.openjoc_emdf.specs.Answers.{bytesNumber, protectionBytes, bytesAnswer, valueThere, paddingAnswer}
+use Rattle.emdf_fields.specs.Fields.{cursorAnswer}
+use Rattle.emdf_fields.specs.declared.CursorAnswer.the-variants as CursorAnswer
 use Rattle.openjoc_emdf.specs.declared.PaddingAnswer.the-variants as PaddingAnswer
 use Rattle.openjoc_emdf.specs.declared.BytesAnswer.the-variants as BytesAnswer
 

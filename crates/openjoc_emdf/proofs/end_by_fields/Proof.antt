@@ -7,7 +7,7 @@ use Rattle.emdf_format.specs.Reader.{give}
 use Rattle.emdf_format.specs.Reading.{containerEnd}
 use Rattle.openjoc_emdf.specs.Answers.{containerOf, containerAnswer}
 use Rattle.openjoc_emdf.specs.declared.ContainerAnswer.the-variants.{Refused}
-use Rattle.openjoc_emdf.proofs.Answers.{field-found, via, yes, no-more, by-field}
+use Rattle.emdf_fields.proofs.Answers.{field-found, via, yes, no-more, by-field}
 use Rattle.openjoc_emdf.proofs.Ends.{bytes-found, bytes-as, padded, by-bytes, by-padding, container-refuses, short-protection}
 use Rattle.openjoc_emdf.proofs.end_by_fields.Statement.{statement}
 use Rattle.openjoc_emdf.proofs.end_by_fields.Tie as tie

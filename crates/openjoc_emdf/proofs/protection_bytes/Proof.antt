@@ -6,9 +6,10 @@ use denote.Ref.{now}
 use Rattle.openjoc_bitio.specs.Cursor.{bitsRemaining}
 use Rattle.openjoc_bitio.proofs.Cursor.{remaining-end}
 use Rattle.emdf_format.proofs.Standing.{bitLimit, remaining-limit}
-use Rattle.openjoc_emdf.specs.Answers.{bytesAnswer, cursorError}
+use Rattle.openjoc_emdf.specs.Answers.{bytesAnswer}
+use Rattle.emdf_fields.specs.Fields.{cursorError}
 use Rattle.openjoc_emdf.specs.declared.BytesAnswer.the-variants.{Refused}
-use Rattle.openjoc_emdf.proofs.Answers.{octets-ended}
+use Rattle.emdf_fields.proofs.Answers.{octets-ended}
 use Rattle.openjoc_emdf.proofs.Octets.{passed, bytes-are}
 use Rattle.openjoc_emdf.proofs.protection_bytes.Statement.{statement}
 use Rattle.openjoc_emdf.proofs.protection_bytes.Tie as tie
