@@ -11,7 +11,7 @@ use Rattle.openjoc_bitio.specs.Bits.{bitsValue}
 use Rattle.openjoc_bitio.proofs.Bits.{value-split, value-range}
 use Rattle.emdf_format.specs.Calls.{octetsAt}
 use Rattle.openjoc_emdf.proofs.Header.{word-is}
-use Rattle.openjoc_emdf.proofs.Octets.{length-octets-at}
+use Rattle.emdf_fields.proofs.Octets.{length-octets-at}
 
 -- the octet that starts r bits into the byte i
 pub octet-value : (s : List ℕ) (i r : ℕ) → r < 8 → getD s i 0 < 256 → getD s (i + 1) 0 < 256 → (getD s i 0 * 256 + getD s (i + 1) 0) / 2 ^ (8 - r) % 256 ≡ bitsValue s (8 * i + r) 8

@@ -5,17 +5,18 @@ use mathlib.Core.Bool.{Bool, true, false, not}
 use mathlib.Core.List.{List}
 use Prim.Native.Nat.{ℕ}
 use native.Mathlib.Omega.{arith}
+use lib.ListN.{length}
 use lib.Dec.{T}
 use Rattle.openjoc_bitio.specs.declared.BitCursor.{BitCursor}
 use Rattle.emdf_format.specs.Reader.{Read, got, refused, Reader, _>>=_, give, ask, choose, cursorAt, position}
 use Rattle.emdf_format.specs.declared.EmdfError.{EmdfError}
 use Rattle.emdf_format.proofs.Payloads.{at-go}
 use Rattle.emdf_format.proofs.Standing.{bind-go, bind-no, ask-go, ask-refuses, choose-this, choose-that, bind-assoc, choose-bind, give-bind}
-use Rattle.emdf_fields.specs.Fields.{fieldAnswer, cursorAnswer, fieldError, cursorError}
+use Rattle.emdf_fields.specs.Fields.{fieldAnswer, countAnswer, fieldError, countError}
 use Rattle.emdf_fields.specs.declared.FieldAnswer.{FieldAnswer}
 use Rattle.emdf_fields.specs.declared.FieldAnswer.the-variants.{Value, Refused}
-use Rattle.emdf_fields.specs.declared.CursorAnswer.{CursorAnswer}
-use Rattle.emdf_fields.specs.declared.CursorAnswer.the-variants as CursorAnswer
+use Rattle.emdf_fields.specs.declared.CountAnswer.{CountAnswer}
+use Rattle.emdf_fields.specs.declared.CountAnswer.the-variants as CountAnswer
 
 -- ---- what an answer says of the reading
 
@@ -44,17 +45,18 @@ field-ended {e} (refused why′ q) {why} {c} h =
     let b : cursorAt e q ≡ c = cc in
     record { is = rw (a, ← b); end = rw (← b) }
 
-pub octets-found : (e : ℕ) (x : Read (List ℕ)) {c : BitCursor} → cursorAnswer e x ≡ CursorAnswer.Past c → (bs : List ℕ) × Found x e bs c
-unfolding cursorAnswer
-octets-found e (got w q) {c} h =
+pub count-found : {A : Type 0} (e : ℕ) (x : Read (List A)) {n : ℕ} {c : BitCursor} → countAnswer e x ≡ CountAnswer.Counted n c → (xs : List A) × (length xs ≡ n) × Found x e xs c
+unfolding countAnswer
+count-found e (got xs q) {n} {c} h =
+    let a : length xs ≡ n = cc in
     let b : cursorAt e q ≡ c = cc in
-    (w, record { is = rw (← b); end = rw (← b) })
-octets-found e (refused why q) h = absurd (let z : _≡_ {A = ℕ} 0 1 = cc in omega arith)
+    (xs, a, record { is = rw (← b); end = rw (← b) })
+count-found e (refused why q) h = absurd (let z : _≡_ {A = ℕ} 0 1 = cc in omega arith)
 
-pub octets-ended : (e : ℕ) (x : Read (List ℕ)) {why : EmdfError} → cursorAnswer e x ≡ CursorAnswer.Refused why → (q : ℕ) × (x ≡ refused why q)
-unfolding cursorAnswer
-octets-ended e (got w q) h = absurd (let z : _≡_ {A = ℕ} 0 1 = cc in omega arith)
-octets-ended e (refused why′ q) {why} h = let a : why′ ≡ why = cc in (q, rw a)
+pub count-ended : {A : Type 0} (e : ℕ) (x : Read (List A)) {why : EmdfError} → countAnswer e x ≡ CountAnswer.Refused why → (q : ℕ) × (x ≡ refused why q)
+unfolding countAnswer
+count-ended e (got xs q) h = absurd (let z : _≡_ {A = ℕ} 0 1 = cc in omega arith)
+count-ended e (refused why′ q) {why} h = let a : why′ ≡ why = cc in (q, rw a)
 
 -- a test that the code asks the other way round
 pub not-not : (t : Bool) → not t ≡ false → T t
@@ -117,17 +119,15 @@ field-ends m k s e p {a} {why} {c} h t =
 -- the answer h that g gives a refusal, wherever it stands
 module _ {B Z : Type 0} (g : ℕ → Read B → Z) (h : EmdfError → Z) (refuses : (e q : ℕ) (why : EmdfError) → h why ≡ g e (refused why q)) where
   pub by-field : (m : Reader ℕ) (k : ℕ → Reader B) (s : List ℕ) (e p : ℕ) {a : FieldAnswer} {why x : EmdfError} {c : BitCursor}
-      → a ≡ fieldAnswer e (m s e p) → a ≡ Refused why c → x ≡ fieldError a → h x ≡ g e ((m >>= k) s e p)
-  unfolding fieldError
+      → a ≡ fieldAnswer e (m s e p) → a ≡ Refused why c → x ≡ fieldError a x → h x ≡ g e ((m >>= k) s e p)
   by-field m k s e p {a} {why} {x} {c} i t z =
       let d = field-ended (m s e p) (sym i ∙ t) in
       let y : x ≡ why = rw t at z in
       ends g m k s e p (d .is) (ap h y ∙ refuses e (c .position) why)
 
-  pub by-octets : (m : Reader (List ℕ)) (k : List ℕ → Reader B) (s : List ℕ) (e p : ℕ) {a : CursorAnswer} {why x : EmdfError}
-      → a ≡ cursorAnswer e (m s e p) → a ≡ CursorAnswer.Refused why → x ≡ cursorError a → h x ≡ g e ((m >>= k) s e p)
-  unfolding cursorError
-  by-octets m k s e p {a} {why} {x} i t z =
-      let d = octets-ended e (m s e p) (sym i ∙ t) in
+  pub by-count : {A : Type 0} (m : Reader (List A)) (k : List A → Reader B) (s : List ℕ) (e p : ℕ) {a : CountAnswer} {why x : EmdfError}
+      → a ≡ countAnswer e (m s e p) → a ≡ CountAnswer.Refused why → x ≡ countError a x → h x ≡ g e ((m >>= k) s e p)
+  by-count m k s e p {a} {why} {x} i t z =
+      let d = count-ended e (m s e p) (sym i ∙ t) in
       let y : x ≡ why = rw t at z in
       ends g m k s e p (d .1) (ap h y ∙ refuses e (d .0) why)

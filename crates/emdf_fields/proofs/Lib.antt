@@ -1,3 +1,4 @@
 pub mod Word
 pub mod Answers
 pub mod Variable
+pub mod Octets

@@ -29,8 +29,8 @@ use Rattle.emdf_fields.proofs.Answers.{Found, Ended, field-ended, ends,
 
 -- a read that is refused ends the group
 pub group-ends : {r : GroupAnswer} (m : Reader ℕ) (k : ℕ → Reader Group) (s : List ℕ) (e p : ℕ) {a : FieldAnswer} {why : EmdfError} {c : BitCursor}
-    → a ≡ fieldAnswer e (m s e p) → a ≡ FieldAnswer.Refused why c → r ≡ refusedGroup a → r ≡ groupAnswer e ((m >>= k) s e p)
-unfolding refusedGroup groupAnswer
+    → a ≡ fieldAnswer e (m s e p) → a ≡ FieldAnswer.Refused why c → r ≡ refusedGroup a r → r ≡ groupAnswer e ((m >>= k) s e p)
+unfolding groupAnswer
 group-ends m k s e p h t z =
     let d = field-ended (m s e p) (sym h ∙ t) in
     ends groupAnswer m k s e p (d .is) (z ∙ rw t (rw (← d .end)))

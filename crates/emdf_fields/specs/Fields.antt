@@ -1,6 +1,7 @@
 -- The answers of fields, by what emdf_format's readers find: e is the end of the cursor that was handed in. Assumes nothing.
 use mathlib.Core.List.{List}
 use Prim.Native.Nat.{ℕ, _+_, _*_, _^_}
+use lib.ListN.{length}
 use lib.Dec.{ltb, eqb}
 use Rattle.openjoc_bitio.specs.Choice.{if_then_else_}
 use Rattle.emdf_format.specs.Reader.{Read, got, refused, Reader, _>>=_, give, ask, choose, cursorAt, bits}
@@ -8,8 +9,8 @@ use Rattle.emdf_format.specs.declared.EmdfError.{EmdfError}
 use Rattle.emdf_format.specs.declared.EmdfError.the-variants.{VariableBitsGroupLimit, ValueOverflow}
 use Rattle.emdf_fields.specs.declared.FieldAnswer.{FieldAnswer}
 use Rattle.emdf_fields.specs.declared.FieldAnswer.the-variants as FieldAnswer
-use Rattle.emdf_fields.specs.declared.CursorAnswer.{CursorAnswer}
-use Rattle.emdf_fields.specs.declared.CursorAnswer.the-variants as CursorAnswer
+use Rattle.emdf_fields.specs.declared.CountAnswer.{CountAnswer}
+use Rattle.emdf_fields.specs.declared.CountAnswer.the-variants as CountAnswer
 use Rattle.emdf_fields.specs.declared.GroupAnswer.{GroupAnswer}
 use Rattle.emdf_fields.specs.declared.GroupAnswer.the-variants as GroupAnswer
 use Rattle.emdf_fields.specs.declared.StartAnswer.{StartAnswer}
@@ -19,19 +20,20 @@ unfoldable pub fieldAnswer : ℕ → Read ℕ → FieldAnswer
 fieldAnswer e (got v q) = FieldAnswer.Value v (cursorAt e q)
 fieldAnswer e (refused why q) = FieldAnswer.Refused why (cursorAt e q)
 
-unfoldable pub cursorAnswer : ℕ → Read (List ℕ) → CursorAnswer
-cursorAnswer e (got bs q) = CursorAnswer.Past (cursorAt e q)
-cursorAnswer e (refused why q) = CursorAnswer.Refused why
+-- how many there are of what a reader lists
+unfoldable pub countAnswer : {A : Type 0} → ℕ → Read (List A) → CountAnswer
+countAnswer e (got xs q) = CountAnswer.Counted (length xs) (cursorAt e q)
+countAnswer e (refused why q) = CountAnswer.Refused why
 
--- ---- why an answer is refused: only refusals are asked
+-- ---- r is why an answer is refused; of an accepted one nothing is said
 
-unfoldable pub fieldError : FieldAnswer → EmdfError
-fieldError (FieldAnswer.Value v c) = ValueOverflow
-fieldError (FieldAnswer.Refused why c) = why
+abbrev pub fieldError : FieldAnswer → EmdfError → EmdfError
+fieldError (FieldAnswer.Value v c) r = r
+fieldError (FieldAnswer.Refused why c) r = why
 
-unfoldable pub cursorError : CursorAnswer → EmdfError
-cursorError (CursorAnswer.Past c) = ValueOverflow
-cursorError (CursorAnswer.Refused why) = why
+abbrev pub countError : CountAnswer → EmdfError → EmdfError
+countError (CountAnswer.Counted n c) r = r
+countError (CountAnswer.Refused why) r = why
 
 -- ---- one group of a variable field
 
@@ -74,10 +76,10 @@ groupOf w limit n start value flag e q =
     then groupRest w limit n (start + value) flag e (q + 1)
     else GroupAnswer.Refused ValueOverflow (cursorAt e q)
 
--- only a refusal is handed to it
-unfoldable pub refusedGroup : FieldAnswer → GroupAnswer
-refusedGroup (FieldAnswer.Value v c) = GroupAnswer.Last v c
-refusedGroup (FieldAnswer.Refused why c) = GroupAnswer.Refused why c
+-- r is a refused read, as a group's answer; of a read that is not refused nothing is said
+abbrev pub refusedGroup : FieldAnswer → GroupAnswer → GroupAnswer
+refusedGroup (FieldAnswer.Value v c) r = r
+refusedGroup (FieldAnswer.Refused why c) r = GroupAnswer.Refused why c
 
 unfoldable pub startAnswer : ℕ → StartAnswer
 startAnswer v = if ltb v (2 ^ 64) then StartAnswer.Start v else StartAnswer.TooLarge

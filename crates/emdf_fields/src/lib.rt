@@ -3,7 +3,7 @@ ghost use mathlib.Core.Path.{_≡_};
 ghost use Prim.Native.Nat.{_+_, _-_, _*_, _^_, _<_};
 ghost use Rattle.emdf_format.specs.Syntax.{escape as ones};
 ghost use Rattle.emdf_format.specs.Reader.{bits, groupsFrom, variableBits, extendedValue, octets};
-ghost use Rattle.emdf_fields.specs.Fields.{fieldAnswer, groupAnswer, startAnswer, refusedGroup, oneGroup, groupOf, groupRest, cursorAnswer, fieldError, cursorError};
+ghost use Rattle.emdf_fields.specs.Fields.{fieldAnswer, groupAnswer, startAnswer, refusedGroup, oneGroup, groupOf, groupRest, countAnswer, fieldError, countError};
 use emdf_format::EmdfError;
 use emdf_format::MAX_EXTENDED_GROUPS;
 use openjoc_bitio::BitCursor;
@@ -16,9 +16,9 @@ pub enum FieldAnswer {
     Refused(EmdfError, BitCursor),
 }
 
-// What passing over octets answers.
-pub enum CursorAnswer {
-    Past(BitCursor),
+// How many octets or payloads there are, and the cursor past them.
+pub enum CountAnswer {
+    Counted(usize, BitCursor),
     Refused(EmdfError),
 }
 
@@ -187,7 +187,7 @@ fn group_rest(
 
 // The refusal of a read, as a group's.
 fn refused_group(a: FieldAnswer) -> GroupAnswer
-    ensures { λ r. ⌜ r ≡ refusedGroup a ⌝ }
+    ensures { λ r. ⌜ r ≡ refusedGroup a r ⌝ }
 {
     match a {
         FieldAnswer::Value(value, c) => GroupAnswer::Last(value, c),
@@ -232,7 +232,7 @@ pub fn extended_value(s: &[u8], c: BitCursor, escape: u64, width: u8) -> FieldAn
 
 // Why a field was refused. Only a refusal is asked.
 pub fn field_error(a: FieldAnswer) -> EmdfError
-    ensures { λ r. ⌜ r ≡ fieldError a ⌝ }
+    ensures { λ r. ⌜ r ≡ fieldError a r ⌝ }
 {
     match a {
         FieldAnswer::Value(_, _) => EmdfError::ValueOverflow,
@@ -240,28 +240,28 @@ pub fn field_error(a: FieldAnswer) -> EmdfError
     }
 }
 
-pub fn cursor_error(a: CursorAnswer) -> EmdfError
-    ensures { λ r. ⌜ r ≡ cursorError a ⌝ }
+pub fn count_error(a: CountAnswer) -> EmdfError
+    ensures { λ r. ⌜ r ≡ countError a r ⌝ }
 {
     match a {
-        CursorAnswer::Past(_) => EmdfError::ValueOverflow,
-        CursorAnswer::Refused(why) => why,
+        CountAnswer::Counted(_, _) => EmdfError::ValueOverflow,
+        CountAnswer::Refused(why) => why,
     }
 }
 
 // Past n octets in one step. A missing one is refused as its own read would be.
-pub fn skip_octets(s: &[u8], c: BitCursor, n: u64) -> CursorAnswer
-    ensures { λ r. ⌜ r ≡ cursorAnswer (c .end) (octets n (now (s .entry)) (c .end) (c .position)) ⌝ }
+pub fn skip_octets(s: &[u8], c: BitCursor, n: u64) -> CountAnswer
+    ensures { λ r. ⌜ r ≡ countAnswer (c .end) (octets n (now (s .entry)) (c .end) (c .position)) ⌝ }
 {
     let remaining = c.bits_remaining(s);
     let there = (remaining / 8) as u64;
     if there < n {
-        return CursorAnswer::Refused(EmdfError::Bit(BitError::EndOfInput {
+        return CountAnswer::Refused(EmdfError::Bit(BitError::EndOfInput {
             requested: 8,
             remaining: remaining % 8,
         }));
     }
     let position = c.position + (n as usize) * 8;
     let end = c.end;
-    CursorAnswer::Past(BitCursor { position, end })
+    CountAnswer::Counted(n as usize, BitCursor { position, end })
 }

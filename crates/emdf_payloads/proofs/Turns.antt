@@ -15,10 +15,11 @@ use Rattle.emdf_format.proofs.Standing.{bitLimit, remaining-limit, taken, chose
 use Rattle.emdf_format.proofs.Payloads.{at-inv, id-law}
 use Rattle.emdf_format.proofs.Lengths.{length-extended}
 use Rattle.emdf_format.proofs.Loops.{payloads-enough, after-moves, id-moves}
-use Rattle.emdf_payloads.specs.Payloads.{Turn, ended, found, nextPayload, turnFound, turnAnswer, countFrom}
+use Rattle.emdf_fields.specs.Fields.{countAnswer}
+use Rattle.emdf_payloads.specs.Payloads.{Turn, ended, found, nextPayload, turnFound, turnAnswer}
 use Rattle.emdf_payloads.specs.declared.PayloadStep.the-variants as PayloadStep
-use Rattle.emdf_payloads.specs.declared.CountAnswer.{CountAnswer}
-use Rattle.emdf_payloads.specs.declared.CountAnswer.the-variants as CountAnswer
+use Rattle.emdf_fields.specs.declared.CountAnswer.{CountAnswer}
+use Rattle.emdf_fields.specs.declared.CountAnswer.the-variants as CountAnswer
 use Rattle.emdf_fields.proofs.Answers.{Found}
 
 -- ---- what a turn's answer says
@@ -78,6 +79,16 @@ payloads-turn n s e p =
     ∙ choose-same _ _ _ _ _ s e q (give-bind ended (rest n) s e q) (
     bind-assoc _ _ (rest n) s e q
     ∙ bind-same _ _ _ s e q (λ x q. give-bind (found x) (rest n) s e q)))))
+
+-- how many payloads there are, k of them counted already
+unfoldable pub countFrom : ℕ → ℕ → Read (List Payload) → CountAnswer
+countFrom k e (got xs q) = CountAnswer.Counted (k + length xs) (cursorAt e q)
+countFrom k e (refused why q) = CountAnswer.Refused why
+
+pub count-all : (e : ℕ) (y : Read (List Payload)) → countFrom 0 e y ≡ countAnswer e y
+unfolding countFrom countAnswer
+count-all e (got xs q) = let z : 0 + length xs ≡ length xs = omega arith in rw z
+count-all e (refused why q) = refl
 
 counted-more : (k e : ℕ) (x : Payload) (y : Read (List Payload)) → countFrom (k + 1) e y ≡ countFrom k e (andThen y (λ xs q. got (x ∷ xs) q))
 unfolding countFrom andThen

@@ -1,20 +1,15 @@
 -- The answers of payloads, by what emdf_format's readers find: e is the end of the cursor that was handed in. Assumes nothing.
 use mathlib.Core.List.{List}
 use mathlib.Core.Path.{_≡_}
-use Prim.Native.Nat.{ℕ, _+_, _-_}
-use lib.ListN.{length}
+use Prim.Native.Nat.{ℕ, _-_}
 use lib.Dec.{eqb}
 use Rattle.openjoc_bitio.specs.declared.BitCursor.{BitCursor}
 use Rattle.emdf_format.specs.Reader.{Read, got, refused, Reader, _>>=_, give, choose, cursorAt, position, extendedValue}
 use Rattle.emdf_format.specs.Reading.{Found, payloadAfter, payloads}
-use Rattle.emdf_format.specs.declared.EmdfError.{EmdfError}
-use Rattle.emdf_format.specs.declared.EmdfError.the-variants.{ValueOverflow}
 use Rattle.emdf_payloads.specs.declared.PayloadStep.{PayloadStep}
 use Rattle.emdf_payloads.specs.declared.PayloadStep.the-variants as PayloadStep
 use Rattle.emdf_payloads.specs.declared.SkipStep.{SkipStep}
 use Rattle.emdf_payloads.specs.declared.SkipStep.the-variants as SkipStep
-use Rattle.emdf_payloads.specs.declared.CountAnswer.{CountAnswer}
-use Rattle.emdf_payloads.specs.declared.CountAnswer.the-variants as CountAnswer
 
 unfoldable pub payloadAnswer : ℕ → Read Found → PayloadStep
 payloadAnswer e (got x q) = PayloadStep.Payload (x .record-of) (cursorAt e q)
@@ -54,13 +49,3 @@ pub record Listed (s : List ℕ) (c : BitCursor) (xs : List Found) : Type 0 wher
   pub bound : ℕ
   pub to : ℕ
   pub is : payloads bound s (c .end) (c .position) ≡ got xs to
-
--- how many payloads there are, k of them counted already
-unfoldable pub countFrom : ℕ → ℕ → Read (List Found) → CountAnswer
-countFrom k e (got xs q) = CountAnswer.Counted (k + length xs) (cursorAt e q)
-countFrom k e (refused why q) = CountAnswer.Refused why
-
--- only a refusal is asked
-unfoldable pub countError : CountAnswer → EmdfError
-countError (CountAnswer.Counted n c) = ValueOverflow
-countError (CountAnswer.Refused why) = why

@@ -6,9 +6,10 @@ ghost use Rattle.emdf_format.specs.Reading.{traceOf, payloadAfter, payloads};
 ghost use Rattle.openjoc_bitio.specs.Bits.{windowAt};
 ghost use Rattle.emdf_settings.specs.Words.{compactSettings, configLength};
 ghost use Rattle.openjoc_bitio.specs.Cursor.{bitsRemaining};
+ghost use Rattle.emdf_fields.specs.Fields.{countAnswer};
 ghost use Rattle.emdf_payloads.specs.Compact.{compactLength, compactStep, recordAt};
-ghost use Rattle.emdf_payloads.specs.Payloads.{payloadAnswer, turnAnswer, nextPayload, skipOf, countFrom, countError};
-use emdf_fields::CursorAnswer;
+ghost use Rattle.emdf_payloads.specs.Payloads.{payloadAnswer, turnAnswer, nextPayload, skipOf};
+use emdf_fields::CountAnswer;
 use emdf_fields::FieldAnswer;
 use emdf_format::EmdfError;
 use emdf_format::EmdfPayloadBitTrace;
@@ -29,12 +30,6 @@ pub enum PayloadStep {
 pub enum SkipStep {
     Past(u64, BitCursor),
     End(BitCursor),
-    Refused(EmdfError),
-}
-
-// How many payloads there are, and the cursor past the id that ends them.
-pub enum CountAnswer {
-    Counted(usize, BitCursor),
     Refused(EmdfError),
 }
 
@@ -100,8 +95,8 @@ fn after_by_fields(s: &[u8], c: BitCursor, start: usize, id: u64) -> PayloadStep
         return PayloadStep::Refused(emdf_fields::field_error(a2));
     };
     let a3 = emdf_fields::skip_octets(s, c2, size);
-    let CursorAnswer::Past(c3) = a3 else {
-        return PayloadStep::Refused(emdf_fields::cursor_error(a3));
+    let CountAnswer::Counted(_, c3) = a3 else {
+        return PayloadStep::Refused(emdf_fields::count_error(a3));
     };
     let trace = bit_trace(start, c.position, c1.position, c2.position, c3.position);
     PayloadStep::Payload(PayloadRecord { id, config, trace }, c3)
@@ -251,7 +246,7 @@ fn skipped(step: PayloadStep) -> SkipStep
 
 // Reads all payloads, to the end of the list.
 pub fn count_payloads(s: &[u8], c: BitCursor) -> CountAnswer
-    ensures { λ r. ⌜ r ≡ countFrom 0 (c .end) (payloads (bitsRemaining (now (s .entry)) c) (now (s .entry)) (c .end) (c .position)) ⌝ }
+    ensures { λ r. ⌜ r ≡ countAnswer (c .end) (payloads (bitsRemaining (now (s .entry)) c) (now (s .entry)) (c .end) (c .position)) ⌝ }
 {
     let mut count: usize = 0;
     let mut at = c;
@@ -269,14 +264,5 @@ pub fn count_payloads(s: &[u8], c: BitCursor) -> CountAnswer
                 return CountAnswer::Refused(why);
             }
         }
-    }
-}
-
-pub fn count_error(a: CountAnswer) -> EmdfError
-    ensures { λ r. ⌜ r ≡ countError a ⌝ }
-{
-    match a {
-        CountAnswer::Counted(_, _) => EmdfError::ValueOverflow,
-        CountAnswer::Refused(why) => why,
     }
 }

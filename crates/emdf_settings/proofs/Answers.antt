@@ -45,16 +45,14 @@ config-ended e (refused why′ q) {why} h = let a : why′ ≡ why = cc in (q, r
 -- the answer h that g gives a refusal, wherever it stands
 module _ {B Z : Type 0} (g : ℕ → Read B → Z) (h : EmdfError → Z) (refuses : (e q : ℕ) (why : EmdfError) → h why ≡ g e (refused why q)) where
   pub by-optional : (m : Reader Optional) (k : Optional → Reader B) (s : List ℕ) (e p : ℕ) {a : OptionalAnswer} {why x : EmdfError}
-      → a ≡ optionalAnswer e (m s e p) → a ≡ OptionalAnswer.Refused why → x ≡ optionalError a → h x ≡ g e ((m >>= k) s e p)
-  unfolding optionalError
+      → a ≡ optionalAnswer e (m s e p) → a ≡ OptionalAnswer.Refused why → x ≡ optionalError a x → h x ≡ g e ((m >>= k) s e p)
   by-optional m k s e p {a} {why} {x} i t z =
       let d = optional-ended e (m s e p) (sym i ∙ t) in
       let y : x ≡ why = rw t at z in
       ends g m k s e p (d .1) (ap h y ∙ refuses e (d .0) why)
 
   pub by-config : (m : Reader EmdfPayloadConfig) (k : EmdfPayloadConfig → Reader B) (s : List ℕ) (e p : ℕ) {a : ConfigAnswer} {why x : EmdfError}
-      → a ≡ configAnswer e (m s e p) → a ≡ ConfigAnswer.Refused why → x ≡ configError a → h x ≡ g e ((m >>= k) s e p)
-  unfolding configError
+      → a ≡ configAnswer e (m s e p) → a ≡ ConfigAnswer.Refused why → x ≡ configError a x → h x ≡ g e ((m >>= k) s e p)
   by-config m k s e p {a} {why} {x} i t z =
       let d = config-ended e (m s e p) (sym i ∙ t) in
       let y : x ≡ why = rw t at z in

@@ -4,7 +4,6 @@ use Rattle.emdf_format.specs.Reader.{Read, got, refused, cursorAt}
 use Rattle.emdf_format.specs.declared.Optional.{Optional}
 use Rattle.emdf_format.specs.declared.EmdfPayloadConfig.{EmdfPayloadConfig}
 use Rattle.emdf_format.specs.declared.EmdfError.{EmdfError}
-use Rattle.emdf_format.specs.declared.EmdfError.the-variants.{ValueOverflow}
 use Rattle.emdf_settings.specs.declared.OptionalAnswer.{OptionalAnswer}
 use Rattle.emdf_settings.specs.declared.OptionalAnswer.the-variants as OptionalAnswer
 use Rattle.emdf_settings.specs.declared.ConfigAnswer.{ConfigAnswer}
@@ -18,12 +17,12 @@ unfoldable pub configAnswer : ℕ → Read EmdfPayloadConfig → ConfigAnswer
 configAnswer e (got t q) = ConfigAnswer.Config t (cursorAt e q)
 configAnswer e (refused why q) = ConfigAnswer.Refused why
 
--- ---- why an answer is refused: only refusals are asked
+-- ---- r is why an answer is refused; of an accepted one nothing is said
 
-unfoldable pub optionalError : OptionalAnswer → EmdfError
-optionalError (OptionalAnswer.Value o c) = ValueOverflow
-optionalError (OptionalAnswer.Refused why) = why
+abbrev pub optionalError : OptionalAnswer → EmdfError → EmdfError
+optionalError (OptionalAnswer.Value o c) r = r
+optionalError (OptionalAnswer.Refused why) r = why
 
-unfoldable pub configError : ConfigAnswer → EmdfError
-configError (ConfigAnswer.Config t c) = ValueOverflow
-configError (ConfigAnswer.Refused why) = why
+abbrev pub configError : ConfigAnswer → EmdfError → EmdfError
+configError (ConfigAnswer.Config t c) r = r
+configError (ConfigAnswer.Refused why) r = why

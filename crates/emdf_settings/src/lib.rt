@@ -413,7 +413,7 @@ fn present_bits(s: &[u8], c: BitCursor, there: bool, n: u8) -> OptionalAnswer
 }
 
 fn optional_error(a: OptionalAnswer) -> EmdfError
-    ensures { λ r. ⌜ r ≡ optionalError a ⌝ }
+    ensures { λ r. ⌜ r ≡ optionalError a r ⌝ }
 {
     match a {
         OptionalAnswer::Value(_, _) => EmdfError::ValueOverflow,
@@ -497,7 +497,7 @@ fn config_controls(
 }
 
 pub fn config_error(a: ConfigAnswer) -> EmdfError
-    ensures { λ r. ⌜ r ≡ configError a ⌝ }
+    ensures { λ r. ⌜ r ≡ configError a r ⌝ }
 {
     match a {
         ConfigAnswer::Config(_, _) => EmdfError::ValueOverflow,

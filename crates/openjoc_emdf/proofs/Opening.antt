@@ -10,7 +10,7 @@ use Rattle.emdf_format.specs.Reading.{Container, Reading, accepted, refusal, re
 use Rattle.emdf_format.proofs.Carrier.{read-contained, read-limit, read-size}
 use Rattle.emdf_fields.specs.Fields.{fieldAnswer}
 use Rattle.emdf_payloads.specs.Payloads.{Listed}
-use Rattle.openjoc_emdf.specs.Answers.{parsedEmdf, parseAnswer, reachedBy, firstPayload, openAnswer, parseError, Opened}
+use Rattle.openjoc_emdf.specs.Answers.{parsedEmdf, parseAnswer, firstPayload, openAnswer, parseError, Opened}
 use Rattle.openjoc_emdf.specs.declared.ParsedEmdf.{ParsedEmdf}
 use Rattle.openjoc_emdf.specs.declared.ParseAnswer.{ParseAnswer}
 use Rattle.openjoc_emdf.specs.declared.ParseAnswer.the-variants as ParseAnswer
@@ -22,8 +22,8 @@ accepted-is (accepted n c) {p} h = let a : parsedEmdf n c ≡ p = cc in (c, rw (
 accepted-is (refusal why) h = absurd (let w : _≡_ {A = ℕ} 0 1 = cc in omega arith)
 
 module _ (s : List ℕ) {a : ParseAnswer} (i : a ≡ parseAnswer (reading s)) where
-  pub open-refused : {why x : EmdfError} → a ≡ ParseAnswer.Refused why → x ≡ parseError a → OpenAnswer.Refused x ≡ openAnswer s (reading s)
-  unfolding openAnswer parseAnswer parseError
+  pub open-refused : {why x : EmdfError} → a ≡ ParseAnswer.Refused why → x ≡ parseError a x → OpenAnswer.Refused x ≡ openAnswer s (reading s)
+  unfolding openAnswer parseAnswer
   open-refused {why} {x} t z = go (reading s) (sym i ∙ t)
     where
       go : (y : Reading) → parseAnswer y ≡ ParseAnswer.Refused why → OpenAnswer.Refused x ≡ openAnswer s y
@@ -44,7 +44,7 @@ module _ (s : List ℕ) {a : ParseAnswer} (i : a ≡ parseAnswer (reading s)) wh
 -- ---- where the payloads start
 
 pub read-first : (s : List ℕ) (n : ℕ) (c : Container) → reading s ≡ accepted n c → Listed (take n s) (firstPayload n s) (c .found) × (firstPayload n s .end ≡ n * 8)
-unfolding firstPayload reachedBy fieldAnswer
+unfolding firstPayload fieldAnswer
 read-first s n c h =
     let (q, k) = read-contained s n c h in
     let z : 8 * n ≡ n * 8 = omega arith in

@@ -8,18 +8,15 @@ use Rattle.openjoc_bitio.specs.Choice.{if_then_else_}
 use Rattle.openjoc_bitio.specs.Bits.{bitsValue}
 use Rattle.openjoc_bitio.specs.Cursor.{bitsRemaining}
 use Rattle.openjoc_bitio.specs.declared.BitCursor.{BitCursor}
-use Rattle.emdf_format.specs.Reader.{Read, got, refused, Reader, _>>=_, cursorAt, remaining, extendedValue}
-use Rattle.emdf_format.specs.Reading.{payloads, Container, containerEnd, Reading, accepted, refusal, reading}
+use Rattle.emdf_format.specs.Reader.{Read, got, refused, Reader, _>>=_, give, cursorAt, remaining, extendedValue}
+use Rattle.emdf_format.specs.Reading.{payloads, padding, Container, containerEnd, Reading, accepted, refusal, reading}
 use Rattle.emdf_format.specs.Calls.{Class, nonEmdf, parsed, trailingData, malformed}
 use Rattle.emdf_format.specs.declared.EmdfError.{EmdfError}
-use Rattle.emdf_format.specs.declared.EmdfError.the-variants.{ValueOverflow}
 use Rattle.emdf_fields.specs.declared.FieldAnswer.{FieldAnswer}
 use Rattle.emdf_fields.specs.declared.FieldAnswer.the-variants as FieldAnswer
 use Rattle.openjoc_emdf.specs.declared.ProtectionBytes.{ProtectionBytes}
 use Rattle.openjoc_emdf.specs.declared.BytesAnswer.{BytesAnswer}
 use Rattle.openjoc_emdf.specs.declared.BytesAnswer.the-variants as BytesAnswer
-use Rattle.openjoc_emdf.specs.declared.PaddingAnswer.{PaddingAnswer}
-use Rattle.openjoc_emdf.specs.declared.PaddingAnswer.the-variants as PaddingAnswer
 use Rattle.openjoc_emdf.specs.declared.EmdfContainer.{EmdfContainer}
 use Rattle.openjoc_emdf.specs.declared.ContainerAnswer.{ContainerAnswer}
 use Rattle.openjoc_emdf.specs.declared.ContainerAnswer.the-variants as ContainerAnswer
@@ -56,9 +53,11 @@ bytesAnswer e (refused why q) = BytesAnswer.Refused why
 unfoldable pub valueThere : List ℕ → BitCursor → ℕ → ℕ
 valueThere s c n = if leb n (bitsRemaining s c) then bitsValue s (c .position) n else 0
 
-unfoldable pub paddingAnswer : Read (Unit {0}) → PaddingAnswer
-paddingAnswer (got u q) = PaddingAnswer.Padded
-paddingAnswer (refused why q) = PaddingAnswer.Refused why
+-- padding as a field, whose value is 0
+unfoldable pub paddingValue : Reader ℕ
+paddingValue = do
+  _ ← padding
+  give 0
 
 -- ---- the container
 
@@ -100,7 +99,7 @@ unfoldable pub parseAnswer : Reading → ParseAnswer
 parseAnswer (accepted n c) = ParseAnswer.Parsed (parsedEmdf n c)
 parseAnswer (refusal why) = ParseAnswer.Refused why
 
-unfoldable pub reachedBy : FieldAnswer → BitCursor
+abbrev pub reachedBy : FieldAnswer → BitCursor
 reachedBy (FieldAnswer.Value v c) = c
 reachedBy (FieldAnswer.Refused why c) = c
 
@@ -134,16 +133,12 @@ pub record Opened (s : List ℕ) (p : ParsedEmdf) (first : BitCursor) : Type 0 w
   pub end : first .end ≡ p .«bytes_consumed» .0 * 8
   pub listed : Listed (take (p .«bytes_consumed» .0) s) first (container .found)
 
--- ---- why an answer is refused: only refusals are asked
+-- ---- r is why an answer is refused; of an accepted one nothing is said
 
-unfoldable pub parseError : ParseAnswer → EmdfError
-parseError (ParseAnswer.Parsed p) = ValueOverflow
-parseError (ParseAnswer.Refused why) = why
+abbrev pub parseError : ParseAnswer → EmdfError → EmdfError
+parseError (ParseAnswer.Parsed p) r = r
+parseError (ParseAnswer.Refused why) r = why
 
-unfoldable pub bytesError : BytesAnswer → EmdfError
-bytesError (BytesAnswer.Bytes b c) = ValueOverflow
-bytesError (BytesAnswer.Refused why) = why
-
-unfoldable pub paddingError : PaddingAnswer → EmdfError
-paddingError PaddingAnswer.Padded = ValueOverflow
-paddingError (PaddingAnswer.Refused why) = why
+abbrev pub bytesError : BytesAnswer → EmdfError → EmdfError
+bytesError (BytesAnswer.Bytes b c) r = r
+bytesError (BytesAnswer.Refused why) r = why

@@ -4,17 +4,17 @@ ghost use mathlib.Core.Bool.{true};
 ghost use Prim.Native.Nat.{_+_, _-_, _*_, _^_, _≤_, _<_};
 ghost use Rattle.emdf_format.specs.Contents.{protectionLength};
 ghost use Rattle.emdf_format.specs.Reader.{octets};
-ghost use Rattle.emdf_format.specs.Reading.{Found, padding, containerEnd, container, reading};
+ghost use Rattle.emdf_format.specs.Reading.{Found, containerEnd, container, reading};
 ghost use Rattle.emdf_format.specs.Calls.{classify, octetsAt};
 ghost use mathlib.Core.List.{List};
 ghost use lib.ListN.{length};
 ghost use Rattle.openjoc_bitio.specs.Bits.{bitsValue};
-ghost use Rattle.openjoc_emdf.specs.Answers.{protectionBytes, bytesAnswer, valueThere, paddingAnswer, IsEnd, containerAfter, containerAnswer, parseAnswer, parsedOf, classAnswer, classifiedOf, reachedBy, firstPayload, openAnswer, parseError, bytesError, paddingError};
-use emdf_fields::CursorAnswer;
+ghost use Rattle.emdf_fields.specs.Fields.{fieldAnswer};
+ghost use Rattle.openjoc_emdf.specs.Answers.{protectionBytes, bytesAnswer, valueThere, paddingValue, IsEnd, containerAfter, containerAnswer, parseAnswer, parsedOf, classAnswer, classifiedOf, reachedBy, firstPayload, openAnswer, parseError, bytesError};
+use emdf_fields::CountAnswer;
 use emdf_fields::FieldAnswer;
 use emdf_format::EmdfError;
 use emdf_format::SYNCWORD;
-use emdf_payloads::CountAnswer;
 use openjoc_bitio::BitCursor;
 use openjoc_bitio::BitsAnswer;
 use openjoc_bitio::ByteCount;
@@ -84,12 +84,6 @@ enum BytesAnswer {
     Refused(EmdfError),
 }
 
-// What the bits after the protection answer.
-enum PaddingAnswer {
-    Padded,
-    Refused(EmdfError),
-}
-
 // A protection's length, by its code.
 fn protection_length(code: u64) -> usize
     ensures { λ r. ⌜ r ≡ protectionLength code ⌝ }
@@ -108,8 +102,8 @@ fn protection_bytes(s: &[u8], c: BitCursor, n: usize) -> BytesAnswer
     ensures { λ r. ⌜ r ≡ bytesAnswer (c .end) (octets n (now (s .entry)) (c .end) (c .position)) ⌝ }
 {
     let a = emdf_fields::skip_octets(s, c, n as u64);
-    let CursorAnswer::Past(past) = a else {
-        return BytesAnswer::Refused(emdf_fields::cursor_error(a));
+    let CountAnswer::Counted(_, past) = a else {
+        return BytesAnswer::Refused(emdf_fields::count_error(a));
     };
     let more = above_eight(n);
     let position = c.position + more * 8;
@@ -143,34 +137,27 @@ fn value_at(s: &[u8], c: BitCursor, n: usize) -> u64
 }
 
 // To the end of the declared length: at most 7 bits, all zero.
-fn check_padding(s: &[u8], c: BitCursor) -> PaddingAnswer
-    ensures { λ r. ⌜ r ≡ paddingAnswer (padding (now (s .entry)) (c .end) (c .position)) ⌝ }
+fn check_padding(s: &[u8], c: BitCursor) -> FieldAnswer
+    ensures { λ r. ⌜ r ≡ fieldAnswer (c .end) (paddingValue (now (s .entry)) (c .end) (c .position)) ⌝ }
 {
     let remaining = c.bits_remaining(s);
     if 7 < remaining {
-        return PaddingAnswer::Refused(EmdfError::ExcessPadding { bits: remaining });
+        return FieldAnswer::Refused(EmdfError::ExcessPadding { bits: remaining }, c);
     }
+    let position = c.position + remaining;
+    let end = c.end;
     if value_at(s, c, remaining) != 0 {
-        return PaddingAnswer::Refused(EmdfError::NonzeroPadding);
+        return FieldAnswer::Refused(EmdfError::NonzeroPadding, BitCursor { position, end });
     }
-    PaddingAnswer::Padded
+    FieldAnswer::Value(0, BitCursor { position, end })
 }
 
 fn bytes_error(a: BytesAnswer) -> EmdfError
-    ensures { λ r. ⌜ r ≡ bytesError a ⌝ }
+    ensures { λ r. ⌜ r ≡ bytesError a r ⌝ }
 {
     match a {
         BytesAnswer::Bytes(_, _) => EmdfError::ValueOverflow,
         BytesAnswer::Refused(why) => why,
-    }
-}
-
-fn padding_error(a: PaddingAnswer) -> EmdfError
-    ensures { λ r. ⌜ r ≡ paddingError a ⌝ }
-{
-    match a {
-        PaddingAnswer::Padded => EmdfError::ValueOverflow,
-        PaddingAnswer::Refused(why) => why,
     }
 }
 
@@ -276,8 +263,8 @@ fn end_by_fields(s: &[u8], c: BitCursor, key: u64, count: usize) -> ContainerAns
         return ContainerAnswer::Refused(bytes_error(a4));
     };
     let a5 = check_padding(s, c4);
-    let PaddingAnswer::Padded = a5 else {
-        return ContainerAnswer::Refused(padding_error(a5));
+    let FieldAnswer::Value(_, _) = a5 else {
+        return ContainerAnswer::Refused(emdf_fields::field_error(a5));
     };
     let protection = EmdfProtection { primary, secondary };
     ContainerAnswer::Container(EmdfContainer {
@@ -334,7 +321,7 @@ fn parse_payloads(s: &[u8], c: BitCursor, key: u64) -> ContainerAnswer
 {
     let a = emdf_payloads::count_payloads(s, c);
     let CountAnswer::Counted(count, c1) = a else {
-        return ContainerAnswer::Refused(emdf_payloads::count_error(a));
+        return ContainerAnswer::Refused(emdf_fields::count_error(a));
     };
     container_end(s, c1, key, count)
 }
@@ -424,7 +411,7 @@ fn reached(a: FieldAnswer) -> BitCursor
 }
 
 fn parse_error(a: ParseAnswer) -> EmdfError
-    ensures { λ r. ⌜ r ≡ parseError a ⌝ }
+    ensures { λ r. ⌜ r ≡ parseError a r ⌝ }
 {
     match a {
         ParseAnswer::Parsed(_) => EmdfError::ValueOverflow,

@@ -1,5 +1,4 @@
 use borrow.Author.Needs.{needs}
-use Rattle.emdf_fields.specs.Fields.{refusedGroup}
 use Rattle.emdf_fields.proofs.refused_group.Statement.{statement}
 use Rattle.emdf_fields.proofs.refused_group.Tie as tie
 
@@ -10,11 +9,9 @@ enum-known-a-2 : tie.Need-enum-known-a-2
 enum-known-a-2 c = search needs
 
 returns : tie.Need-returns
-unfolding refusedGroup
-returns c = rw (c .before .a .given .1)
+returns c = search needs
 
 returns-2 : tie.Need-returns-2
-unfolding refusedGroup
 returns-2 c = rw (c .before .a2 .given .1)
 
 pub refused-group-spec : {M : Type 1} → statement M

@@ -6,7 +6,8 @@ use denote.Ref.{now}
 use Rattle.openjoc_bitio.proofs.Cursor.{remaining-end}
 use Rattle.emdf_format.proofs.Standing.{bitLimit, remaining-limit}
 use Rattle.emdf_format.proofs.Loops.{octets-there, octets-short}
-use Rattle.emdf_fields.specs.Fields.{cursorAnswer}
+use Rattle.emdf_fields.specs.Fields.{countAnswer}
+use Rattle.emdf_fields.proofs.Octets.{length-octets-at}
 use Rattle.emdf_fields.proofs.skip_octets.Statement.{statement}
 use Rattle.emdf_fields.proofs.skip_octets.Tie as tie
 
@@ -14,7 +15,7 @@ bits-remaining-requires : tie.Need-bits-remaining-requires
 bits-remaining-requires c κs = search needs
 
 returns : tie.Need-returns
-unfolding cursorAnswer
+unfolding countAnswer
 returns c =
     let a = c .before .before .before .args in
     let s = now (a .s) in
@@ -31,7 +32,7 @@ add-position : tie.Need-add-position
 add-position c = let a = c .before .before .before .before .args in omega (arith, remaining-end (now (a .s)) (a .c))
 
 returns-2 : tie.Need-returns-2
-unfolding cursorAnswer
+unfolding countAnswer
 returns-2 c =
     let a = c .before .before .before .before .args in
     let s = now (a .s) in
@@ -40,7 +41,7 @@ returns-2 c =
     let h : c .before .before .bits-remaining .result ≡ bitLimit s e - p = c .before .before .bits-remaining .ensures ∙ remaining-limit s e p in
     let k : 8 * a .n ≤ bitLimit s e - p = omega arith in
     let m : p + a .n * 8 ≡ p + 8 * a .n = omega arith in
-    rw (octets-there (a .n) s e p k, m)
+    rw (octets-there (a .n) s e p k, length-octets-at, m)
 
 pub skip-octets-spec : {M : Type 1} → statement M
 skip-octets-spec =

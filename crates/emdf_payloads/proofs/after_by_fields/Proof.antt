@@ -5,7 +5,7 @@ use Rattle.emdf_format.specs.Reading.{payloadAfter}
 use Rattle.emdf_payloads.specs.Payloads.{payloadAnswer}
 use Rattle.emdf_payloads.specs.declared.PayloadStep.the-variants.{Refused}
 use Rattle.emdf_settings.proofs.Answers.{config-found, by-config}
-use Rattle.emdf_fields.proofs.Answers.{field-found, octets-found, via, here, by-field, by-octets}
+use Rattle.emdf_fields.proofs.Answers.{field-found, count-found, via, here, by-field, by-count}
 use Rattle.emdf_payloads.proofs.Answers.{payload-refuses}
 use Rattle.emdf_payloads.proofs.after_by_fields.Statement.{statement}
 use Rattle.emdf_payloads.proofs.after_by_fields.Tie as tie
@@ -51,19 +51,19 @@ enum-known-a3 c = search needs
 enum-told-3 : tie.Need-enum-told-3
 enum-told-3 c = search needs
 
-cursor-error-requires : tie.Need-cursor-error-requires
-cursor-error-requires c κs = search needs
+count-error-requires : tie.Need-count-error-requires
+count-error-requires c κs = search needs
 
 returns-3 : tie.Need-returns-3
 unfolding payloadAfter payloadAnswer give
-returns-3 c = here payloadAnswer _ _ _ _ (via payloadAnswer _ _ _ _ _ (config-found _ (sym (c .before .before .before .before .before .before .before .before .before .before .before .payload-config .ensures) ∙ c .before .before .before .before .before .before .before .before .before .a1 .given .1)) (here payloadAnswer _ _ _ _ (via payloadAnswer _ _ _ _ _ (field-found _ (sym (c .before .before .before .before .before .before .before .variable-bits .ensures) ∙ c .before .before .before .before .before .a2 .given .1)) (here payloadAnswer _ _ _ _ (by-octets payloadAnswer Refused payload-refuses _ _ _ _ _ (c .before .before .before .skip-octets .ensures) (c .before .enum-told3 .given .1) (c .cursor-error .ensures))))))
+returns-3 c = here payloadAnswer _ _ _ _ (via payloadAnswer _ _ _ _ _ (config-found _ (sym (c .before .before .before .before .before .before .before .before .before .before .before .payload-config .ensures) ∙ c .before .before .before .before .before .before .before .before .before .a1 .given .1)) (here payloadAnswer _ _ _ _ (via payloadAnswer _ _ _ _ _ (field-found _ (sym (c .before .before .before .before .before .before .before .variable-bits .ensures) ∙ c .before .before .before .before .before .a2 .given .1)) (here payloadAnswer _ _ _ _ (by-count payloadAnswer Refused payload-refuses _ _ _ _ _ (c .before .before .before .skip-octets .ensures) (c .before .enum-told3 .given .1) (c .count-error .ensures))))))
 
 bit-trace-requires : tie.Need-bit-trace-requires
 bit-trace-requires c κs = search needs
 
 returns-4 : tie.Need-returns-4
 unfolding payloadAfter payloadAnswer give
-returns-4 c = here payloadAnswer _ _ _ _ (via payloadAnswer _ _ _ _ _ (config-found _ (sym (c .before .before .before .before .before .before .before .before .before .before .before .before .payload-config .ensures) ∙ c .before .before .before .before .before .before .before .before .before .before .a1 .given .1)) (here payloadAnswer _ _ _ _ (via payloadAnswer _ _ _ _ _ (field-found _ (sym (c .before .before .before .before .before .before .before .before .variable-bits .ensures) ∙ c .before .before .before .before .before .before .a2 .given .1)) (here payloadAnswer _ _ _ _ (via payloadAnswer _ _ _ _ _ (octets-found _ _ (sym (c .before .before .before .before .skip-octets .ensures) ∙ c .before .before .a3 .given .1) .1) (here payloadAnswer _ _ _ _ (rw (c .bit-trace .ensures))))))))
+returns-4 c = here payloadAnswer _ _ _ _ (via payloadAnswer _ _ _ _ _ (config-found _ (sym (c .before .before .before .before .before .before .before .before .before .before .before .before .payload-config .ensures) ∙ c .before .before .before .before .before .before .before .before .before .before .a1 .given .1)) (here payloadAnswer _ _ _ _ (via payloadAnswer _ _ _ _ _ (field-found _ (sym (c .before .before .before .before .before .before .before .before .variable-bits .ensures) ∙ c .before .before .before .before .before .before .a2 .given .1)) (here payloadAnswer _ _ _ _ (via payloadAnswer _ _ _ _ _ (count-found _ _ (sym (c .before .before .before .before .skip-octets .ensures) ∙ c .before .before .a3 .given .1) .2) (here payloadAnswer _ _ _ _ (rw (c .bit-trace .ensures))))))))
 
 pub after-by-fields-spec : {M : Type 1} → statement M
 after-by-fields-spec =
@@ -82,7 +82,7 @@ after-by-fields-spec =
     skip-octets-requires
     enum-known-a3
     enum-told-3
-    cursor-error-requires
+    count-error-requires
     returns-3
     bit-trace-requires
     returns-4)

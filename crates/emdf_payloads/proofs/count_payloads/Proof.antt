@@ -5,8 +5,7 @@ use native.Mathlib.Omega.{arith}
 use denote.Ref.{now}
 use Rattle.openjoc_bitio.specs.Cursor.{bitsRemaining}
 use Rattle.emdf_format.specs.Reading.{payloads}
-use Rattle.emdf_payloads.specs.Payloads.{countFrom}
-use Rattle.emdf_payloads.proofs.Turns.{at-end, at-refused, at-payload}
+use Rattle.emdf_payloads.proofs.Turns.{countFrom, count-all, at-end, at-refused, at-payload}
 use Rattle.emdf_payloads.proofs.Walk.{skip-past, skip-end, skip-refused}
 use Rattle.emdf_payloads.proofs.count_payloads.Statement.{statement}
 use Rattle.emdf_payloads.proofs.count_payloads.Tie as tie
@@ -41,13 +40,13 @@ enum-known-step-2 : tie.Need-enum-known-step-2 Inv-loop μ-loop
 enum-known-step-2 c = search needs
 
 returns : tie.Need-returns Inv-loop μ-loop
-returns c = at-end _ _ _ (skip-end _ (sym (c .before .before .before .skip-payload .ensures) ∙ c .before .step2 .given .1)) ∙ c .before .before .before .before .loop .inv .1
+returns c = at-end _ _ _ (skip-end _ (sym (c .before .before .before .skip-payload .ensures) ∙ c .before .step2 .given .1)) ∙ c .before .before .before .before .loop .inv .1 ∙ count-all _ _
 
 enum-known-step-3 : tie.Need-enum-known-step-3 Inv-loop μ-loop
 enum-known-step-3 c = search needs
 
 returns-2 : tie.Need-returns-2 Inv-loop μ-loop
-returns-2 c = at-refused _ _ _ (skip-refused _ (sym (c .before .before .before .skip-payload .ensures) ∙ c .before .step3 .given .1)) ∙ c .before .before .before .before .loop .inv .1
+returns-2 c = at-refused _ _ _ (skip-refused _ (sym (c .before .before .before .skip-payload .ensures) ∙ c .before .step3 .given .1)) ∙ c .before .before .before .before .loop .inv .1 ∙ count-all _ _
 
 pub count-payloads-spec : {M : Type 1} → statement M
 count-payloads-spec =

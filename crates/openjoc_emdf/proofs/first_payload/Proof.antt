@@ -26,7 +26,7 @@ mul-t10 : tie.Need-mul-t10
 mul-t10 c = search needs
 
 returns : tie.Need-returns
-unfolding firstPayload reachedBy fieldAnswer
+unfolding firstPayload fieldAnswer
 returns c =
     let a = c .before .before .before .before .before .args in
     let n = a .n in
