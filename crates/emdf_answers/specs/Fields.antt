@@ -6,9 +6,9 @@ use Rattle.openjoc_bitio.specs.declared.BitCursor.{BitCursor}
 use Rattle.emdf_format.specs.Reader.{variableBits}
 use Rattle.emdf_format.specs.Calls.{number, figures}
 use Rattle.emdf_format.specs.declared.EmdfError.{EmdfError}
-use Rattle.openjoc_emdf.specs.Answers.{fieldAnswer}
-use Rattle.openjoc_emdf.specs.declared.FieldAnswer.{FieldAnswer}
-use Rattle.openjoc_emdf.specs.declared.FieldAnswer.the-variants.{Value, Refused}
+use Rattle.emdf_fields.specs.Fields.{fieldAnswer}
+use Rattle.emdf_fields.specs.declared.FieldAnswer.{FieldAnswer}
+use Rattle.emdf_fields.specs.declared.FieldAnswer.the-variants.{Value, Refused}
 use Rattle.emdf_answers.specs.declared.BitReply.{BitReply}
 use Rattle.emdf_answers.specs.Bits.{numbered, accepted}
 

@@ -11,6 +11,7 @@ ghost use Rattle.emdf_answers.specs.Carriers.{padded, parsedWords, optio
 ghost use Rattle.emdf_answers.specs.Verdict.{profileOf, verdictNumber, verdictWords, statusWord};
 ghost use Rattle.emdf_answers.specs.Settings.{numberAt, optionalAt, pairFormed, pairsFormed, settingsFormed, configOf, unformed, settingsOf};
 ghost use Rattle.emdf_answers.specs.Edits.{editedNumber, editedWords};
+use emdf_fields::FieldAnswer;
 use emdf_format::BodyAnswer;
 use emdf_format::BodyError;
 use emdf_format::EditAnswer;
@@ -30,7 +31,6 @@ use openjoc_bitio::BitError;
 use openjoc_bitio::BitsAnswer;
 use openjoc_bitio::WindowAnswer;
 use openjoc_emdf::CarrierClassification;
-use openjoc_emdf::FieldAnswer;
 use openjoc_emdf::ParsedEmdf;
 
 // A payload's settings: 18 numbers.

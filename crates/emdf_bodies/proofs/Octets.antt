@@ -14,7 +14,7 @@ use Rattle.emdf_format.specs.Edits.{Bytes}
 use Rattle.emdf_format.proofs.Splice.{front-bytes}
 use Rattle.emdf_writer.specs.Writing.{bitRun}
 use Rattle.emdf_writer.proofs.Run.{run-add, run-value}
-use Rattle.openjoc_emdf.proofs.Octets.{length-octets-at}
+use Rattle.emdf_fields.proofs.Octets.{length-octets-at}
 
 octets-bytes : (s : List ℕ) (p n : ℕ) → Bytes (octetsAt s p n)
 unfolding octetsAt

@@ -17,8 +17,10 @@ use Rattle.emdf_format.proofs.Standing.{stands-to}
 use Rattle.emdf_format.proofs.Payloads.{Traced, more, payloads-sound, length-octets}
 use Rattle.emdf_format.proofs.Spans.{bodyEnd}
 use Rattle.openjoc_emdf.specs.declared.ParsedEmdf.{ParsedEmdf}
-use Rattle.openjoc_emdf.specs.declared.PayloadStep.the-variants as PayloadStep
-use Rattle.openjoc_emdf.proofs.Walk.{Listed, stepAt, First, step-found, step-ended, step-refused, Opened}
+use Rattle.emdf_payloads.specs.declared.PayloadStep.the-variants as PayloadStep
+use Rattle.emdf_payloads.specs.Payloads.{Listed, stepAt}
+use Rattle.emdf_payloads.proofs.Walk.{First, step-found, step-ended, step-refused}
+use Rattle.openjoc_emdf.specs.Answers.{Opened}
 use Rattle.emdf_bodies.specs.Bodies.{bodyOf, findBody}
 
 -- the body's span by its record

@@ -5,7 +5,7 @@ ghost use Prim.Native.Nat.{_-_, _/_, _≤_};
 ghost use lib.ListN.{length, getElem?};
 ghost use Rattle.emdf_format.specs.Reading.{Found, reading};
 ghost use Rattle.emdf_format.specs.Calls.{moveBody, foundAt, scratchAfter, chooseBody};
-ghost use Rattle.openjoc_emdf.proofs.Walk.{Listed};
+ghost use Rattle.emdf_payloads.specs.Payloads.{Listed};
 ghost use Rattle.emdf_bodies.specs.Bodies.{bodyOf, findBody};
 use emdf_format::BodyAnswer;
 use emdf_format::BodyError;
@@ -13,8 +13,8 @@ use emdf_format::EmdfPayloadBitTrace;
 use openjoc_bitio::BitCursor;
 use openjoc_bitio::ByteCount;
 use openjoc_emdf::OpenAnswer;
-use openjoc_emdf::PayloadStep;
-use openjoc_emdf::next_payload;
+use emdf_payloads::PayloadStep;
+use emdf_payloads::next_payload;
 use openjoc_emdf::open_carrier;
 
 // Moves a body that doesn't start on a byte to the first bytes of scratch, and answers where it is and how long.

@@ -15,7 +15,9 @@ use Rattle.emdf_format.specs.declared.RecordsError.the-variants.{Emdf, TableToo
 use Rattle.openjoc_emdf.specs.Answers.{containerOf, openAnswer}
 use Rattle.openjoc_emdf.specs.declared.ParsedEmdf.{ParsedEmdf}
 use Rattle.openjoc_emdf.specs.declared.OpenAnswer.the-variants as OpenAnswer
-use Rattle.openjoc_emdf.proofs.Walk.{Listed, Opened, opened, unopened}
+use Rattle.emdf_payloads.specs.Payloads.{Listed}
+use Rattle.openjoc_emdf.specs.Answers.{Opened}
+use Rattle.openjoc_emdf.proofs.Opening.{opened, unopened}
 use Rattle.emdf_answers.specs.Form.{words}
 use Rattle.emdf_answers.specs.Bits.{figured}
 use Rattle.emdf_answers.specs.Carriers.{padded, parsedWords, readInto, readNumber, readWords, rowsBytes, rowsAfter}

@@ -118,7 +118,7 @@ pub extern "C" fn emdf_variable_bits(
     let cursor = BitCursor { position, end };
     emdf_rows::put_reply(
         answer,
-        emdf_answers::field_reply(openjoc_emdf::variable_bits(bytes, cursor, width, limit)),
+        emdf_answers::field_reply(emdf_fields::variable_bits(bytes, cursor, width, limit)),
     )
 }
 

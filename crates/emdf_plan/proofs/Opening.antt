@@ -13,9 +13,10 @@ use Rattle.emdf_format.proofs.Standing.{length-then, stands-to, stands-in}
 use Rattle.emdf_format.proofs.Lengths.{length-extended, length-container}
 use Rattle.emdf_format.proofs.Container.{contained-stands}
 use Rattle.emdf_format.proofs.Carrier.{read-contained, read-limit, read-size}
-use Rattle.openjoc_emdf.specs.Answers.{fieldAnswer, reachedBy, firstPayload, containerOf, protectionBytes}
+use Rattle.emdf_fields.specs.Fields.{fieldAnswer}
+use Rattle.openjoc_emdf.specs.Answers.{firstPayload, containerOf, protectionBytes, Opened}
 use Rattle.openjoc_emdf.specs.declared.ParsedEmdf.{ParsedEmdf}
-use Rattle.openjoc_emdf.proofs.Walk.{Opened, stepAt}
+use Rattle.emdf_payloads.specs.Payloads.{stepAt}
 use Rattle.emdf_plan.specs.Plan.{layoutOf}
 use Rattle.emdf_plan.specs.Walking.{pastPayloads, stepTrace}
 use Rattle.emdf_plan.proofs.Walked.{Ahead, past-many, past-all, trace-past}
@@ -53,7 +54,7 @@ module _ {s : List ℕ} {p : ParsedEmdf} {first : BitCursor} (o : Opened s p fir
   -- ---- where its payloads start
 
   starts : first .position ≡ 37 + extensionBits 3 (c .key-id)
-  unfolding firstPayload reachedBy fieldAnswer
+  unfolding firstPayload fieldAnswer
   starts =
       let (q, k) = read-contained s n c (o .is) in
       let z : 8 * n ≡ n * 8 = omega arith in

@@ -13,9 +13,9 @@ use Rattle.emdf_format.proofs.Standing.{taken, chosen, bind-inv, choose-inv, gi
 use Rattle.emdf_format.proofs.Payloads.{Traced, more, spans-stand, at-inv, payloads-sound}
 use Rattle.emdf_format.proofs.Lengths.{length-payload}
 use Rattle.emdf_format.proofs.Spans.{bodyEnd}
-use Rattle.openjoc_emdf.specs.Answers.{Turn, ended, found, nextPayload, turnFound, turnAnswer, skipOf}
-use Rattle.openjoc_emdf.specs.declared.PayloadStep.the-variants as PayloadStep
-use Rattle.openjoc_emdf.proofs.Walk.{Listed, listed-step, listed-end, stepAt}
+use Rattle.emdf_payloads.specs.Payloads.{Turn, ended, found, nextPayload, turnFound, turnAnswer, skipOf, Listed, stepAt}
+use Rattle.emdf_payloads.specs.declared.PayloadStep.the-variants as PayloadStep
+use Rattle.emdf_payloads.proofs.Walk.{listed-step, listed-end}
 use Rattle.emdf_plan.specs.Plan.{traceAt}
 use Rattle.emdf_plan.specs.Walking.{pastStep, pastPayloads, stepTrace}
 

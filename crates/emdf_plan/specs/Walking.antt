@@ -4,11 +4,11 @@ use Prim.Native.Nat.{ℕ, zero, suc}
 use Rattle.openjoc_bitio.specs.declared.BitCursor.{BitCursor}
 use Rattle.emdf_format.specs.declared.EmdfPayloadBitTrace.{EmdfPayloadBitTrace}
 use Rattle.emdf_format.specs.Reading.{traceOf}
-use Rattle.openjoc_emdf.specs.Answers.{nextPayload, turnAnswer, skipOf}
-use Rattle.openjoc_emdf.specs.declared.PayloadStep.{PayloadStep}
-use Rattle.openjoc_emdf.specs.declared.PayloadStep.the-variants as PayloadStep
-use Rattle.openjoc_emdf.specs.declared.SkipStep.{SkipStep}
-use Rattle.openjoc_emdf.specs.declared.SkipStep.the-variants as SkipStep
+use Rattle.emdf_payloads.specs.Payloads.{nextPayload, turnAnswer, skipOf}
+use Rattle.emdf_payloads.specs.declared.PayloadStep.{PayloadStep}
+use Rattle.emdf_payloads.specs.declared.PayloadStep.the-variants as PayloadStep
+use Rattle.emdf_payloads.specs.declared.SkipStep.{SkipStep}
+use Rattle.emdf_payloads.specs.declared.SkipStep.the-variants as SkipStep
 
 -- past a payload; elsewhere the cursor stays
 abbrev pub pastStep : SkipStep → BitCursor → BitCursor

@@ -5,24 +5,24 @@ ghost use Prim.Native.Nat.{_+_, _*_, _^_, _<_, _≤_};
 ghost use lib.ListN.{length};
 ghost use Rattle.emdf_format.specs.Reading.{traceOf};
 ghost use Rattle.emdf_format.specs.Edits.{placeExists};
-ghost use Rattle.openjoc_emdf.specs.Answers.{nextPayload, turnAnswer};
-ghost use Rattle.openjoc_emdf.proofs.Walk.{Opened};
+ghost use Rattle.emdf_payloads.specs.Payloads.{nextPayload, turnAnswer};
+ghost use Rattle.openjoc_emdf.specs.Answers.{Opened};
 ghost use Rattle.emdf_plan.specs.Plan.{editOf, placeOf, writableEdit, fieldBits, octetCount, layoutOf, runOf, measure, planOf};
 ghost use Rattle.emdf_plan.specs.Walking.{pastStep, pastPayloads, stepTrace};
 use emdf_format::EditError;
 use emdf_format::EmdfPayloadBitTrace;
 use emdf_format::EmdfPayloadConfig;
 use emdf_format::MAX_DECLARED;
+use emdf_payloads::PayloadStep;
+use emdf_payloads::SkipStep;
+use emdf_payloads::next_payload;
+use emdf_payloads::skip_payload;
 use openjoc_bitio::BitCursor;
 use openjoc_bitio::BitOffset;
 use openjoc_bitio::ByteCount;
 use openjoc_emdf::OpenAnswer;
 use openjoc_emdf::ParsedEmdf;
-use openjoc_emdf::PayloadStep;
-use openjoc_emdf::SkipStep;
-use openjoc_emdf::next_payload;
 use openjoc_emdf::open_carrier;
-use openjoc_emdf::skip_payload;
 
 // One of the six edits, without the bytes that it brings: a body, or a primary and a secondary protection.
 pub enum Request {

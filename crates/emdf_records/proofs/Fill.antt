@@ -11,8 +11,8 @@ use Rattle.openjoc_bitio.specs.declared.BitCursor.{BitCursor}
 use Rattle.emdf_format.specs.Reading.{Found, reading}
 use Rattle.emdf_format.specs.Calls.{recordsOf, Records, inTable, tableAfter}
 use Rattle.emdf_format.specs.declared.PayloadRecord.{PayloadRecord}
-use Rattle.openjoc_emdf.specs.declared.PayloadStep.the-variants as PayloadStep
-use Rattle.openjoc_emdf.proofs.Walk.{stepAt}
+use Rattle.emdf_payloads.specs.declared.PayloadStep.the-variants as PayloadStep
+use Rattle.emdf_payloads.specs.Payloads.{stepAt}
 use Rattle.emdf_records.specs.Records.{planOf}
 use Rattle.emdf_records.specs.declared.RecordsPlan.{RecordsPlan}
 use Rattle.emdf_records.proofs.Records.{inside, Left, rest, Turned, turned, planned, plan-is, filled}

@@ -17,9 +17,11 @@ use Rattle.emdf_format.specs.declared.RecordsError.the-variants as RecordsError
 use Rattle.emdf_format.proofs.Standing.{T-of}
 use Rattle.openjoc_emdf.specs.Answers.{containerOf, parsedEmdf, firstPayload, openAnswer}
 use Rattle.openjoc_emdf.specs.declared.ParsedEmdf.{ParsedEmdf}
-use Rattle.openjoc_emdf.specs.declared.PayloadStep.the-variants as PayloadStep
+use Rattle.emdf_payloads.specs.declared.PayloadStep.the-variants as PayloadStep
 use Rattle.openjoc_emdf.specs.declared.OpenAnswer.the-variants as OpenAnswer
-use Rattle.openjoc_emdf.proofs.Walk.{Listed, stepAt, step-found, step-ended, step-refused, read-first}
+use Rattle.emdf_payloads.specs.Payloads.{Listed, stepAt}
+use Rattle.emdf_payloads.proofs.Walk.{step-found, step-ended, step-refused}
+use Rattle.openjoc_emdf.proofs.Opening.{read-first}
 use Rattle.emdf_records.specs.Records.{recordsAnswer, noRows, rowsPlan, planOf}
 use Rattle.emdf_records.specs.declared.RecordsPlan.{RecordsPlan}
 

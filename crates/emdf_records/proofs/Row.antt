@@ -22,10 +22,10 @@ use Rattle.openjoc_bitio.proofs.BitCursor.Laws as cursor-laws
 use Rattle.emdf_format.specs.declared.PayloadRecord.{PayloadRecord}
 use Rattle.emdf_format.proofs.PayloadRecord as record-type
 use Rattle.emdf_format.proofs.PayloadRecord.Laws as record-laws
-use Rattle.openjoc_emdf.specs.declared.PayloadStep.{PayloadStep}
-use Rattle.openjoc_emdf.specs.declared.PayloadStep.the-variants as PayloadStep
-use Rattle.openjoc_emdf.proofs.PayloadStep as step-type
-use Rattle.openjoc_emdf.proofs.PayloadStep.Laws as step-laws
+use Rattle.emdf_payloads.specs.declared.PayloadStep.{PayloadStep}
+use Rattle.emdf_payloads.specs.declared.PayloadStep.the-variants as PayloadStep
+use Rattle.emdf_payloads.proofs.PayloadStep as step-type
+use Rattle.emdf_payloads.proofs.PayloadStep.Laws as step-laws
 use Rattle.emdf_records.specs.declared.RecordsAnswer.{RecordsAnswer}
 use Rattle.emdf_records.proofs.RecordsAnswer as answer-type
 use Rattle.emdf_records.proofs.RecordsAnswer.Laws as answer-laws

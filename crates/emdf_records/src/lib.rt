@@ -4,14 +4,14 @@ ghost use Prim.Native.Nat.{_/_};
 ghost use lib.ListN.{length, take};
 ghost use Rattle.emdf_format.specs.Reading.{reading};
 ghost use Rattle.emdf_format.specs.Calls.{inTable, tableAfter};
-ghost use Rattle.openjoc_emdf.specs.Answers.{nextPayload, turnAnswer};
+ghost use Rattle.emdf_payloads.specs.Payloads.{nextPayload, turnAnswer};
 ghost use Rattle.emdf_records.specs.Records.{recordsAnswer, noRows, rowsPlan, planOf};
 use emdf_format::PayloadRecord;
 use emdf_format::RecordsError;
+use emdf_payloads::PayloadStep;
 use openjoc_bitio::BitCursor;
 use openjoc_emdf::OpenAnswer;
 use openjoc_emdf::ParsedEmdf;
-use openjoc_emdf::PayloadStep;
 
 // What a reading that fills a table answers.
 pub enum RecordsAnswer {
@@ -90,7 +90,7 @@ fn payload_at(bytes: &[u8], at: BitCursor) -> PayloadStep
 {
     let n = at.end / 8;
     if bytes.len() < n {
-        return openjoc_emdf::next_payload(bytes, at);
+        return emdf_payloads::next_payload(bytes, at);
     }
-    openjoc_emdf::next_payload(&bytes[..n], at)
+    emdf_payloads::next_payload(&bytes[..n], at)
 }

@@ -19,11 +19,12 @@ use Rattle.emdf_format.specs.declared.Optional.the-variants.{Absent, Present}
 use Rattle.emdf_format.specs.declared.EmdfPayloadConfig.{EmdfPayloadConfig}
 use Rattle.emdf_format.specs.declared.PayloadRecord.{PayloadRecord}
 use Rattle.emdf_settings.specs.Words.{headLength, sizeLength, sizeValue}
-use Rattle.openjoc_emdf.specs.declared.PayloadStep.{PayloadStep}
-use Rattle.openjoc_emdf.specs.declared.PayloadStep.the-variants as PayloadStep
-use Rattle.openjoc_emdf.proofs.Walk.{Listed, listed-step, stepAt}
-use Rattle.openjoc_emdf.specs.Compact.{compactRecord}
-use Rattle.openjoc_emdf.proofs.Compact.{compact-step}
+use Rattle.emdf_payloads.specs.declared.PayloadStep.{PayloadStep}
+use Rattle.emdf_payloads.specs.declared.PayloadStep.the-variants as PayloadStep
+use Rattle.emdf_payloads.specs.Payloads.{Listed, stepAt}
+use Rattle.emdf_payloads.proofs.Walk.{listed-step}
+use Rattle.emdf_payloads.specs.Compact.{compactRecord}
+use Rattle.emdf_payloads.proofs.Compact.{compact-step}
 use Rattle.emdf_answers.specs.Form.{bigEndian, words}
 use Rattle.emdf_answers.specs.Bits.{figured}
 use Rattle.emdf_answers.specs.Carriers.{padded, optionalWords, configWords, traceWords, recordWords, rowsBytes, moveNumber, moveWords}

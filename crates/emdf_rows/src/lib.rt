@@ -8,9 +8,9 @@ ghost use Rattle.openjoc_bitio.specs.declared.BitCursor.{BitCursor};
 ghost use Rattle.emdf_format.specs.declared.PayloadRecord.{PayloadRecord};
 ghost use Rattle.emdf_format.specs.Reading.{Found};
 ghost use Rattle.emdf_format.specs.Calls.{recordsOf};
-ghost use Rattle.openjoc_emdf.proofs.Walk.{Listed, stepAt};
-ghost use Rattle.openjoc_emdf.specs.Compact.{compactRecord};
-ghost use Rattle.openjoc_emdf.specs.declared.PayloadStep.the-variants.{Payload};
+ghost use Rattle.emdf_payloads.specs.Payloads.{Listed, stepAt};
+ghost use Rattle.emdf_payloads.specs.Compact.{compactRecord};
+ghost use Rattle.emdf_payloads.specs.declared.PayloadStep.the-variants.{Payload};
 ghost use Rattle.emdf_answers.specs.Form.{bigEndian, words};
 ghost use Rattle.emdf_answers.specs.Bits.{replyBytes};
 ghost use Rattle.emdf_answers.specs.Carriers.{padded, recordWords, rowsBytes, moveNumber, moveWords};
@@ -21,7 +21,7 @@ use emdf_format::BodyAnswer;
 use emdf_format::EditAnswer;
 use emdf_format::PayloadRecord;
 use openjoc_bitio::BitCursor;
-use openjoc_emdf::PayloadStep;
+use emdf_payloads::PayloadStep;
 
 // A payload's row: 27 numbers.
 pub const ROW_BYTES: usize = 216;
@@ -105,7 +105,7 @@ fn put_compact(table: &mut [u8], row: usize, x: u64, p: usize, head: usize, size
     ensures { λ _. ⌜ now (table .exit) ≡ sets (now (table .entry)) row (words (recordWords (compactRecord x p head size n))) ⌝ }
 {
     let config = emdf_settings::compact_config(x << 5);
-    let trace = openjoc_emdf::bit_trace(p, p + 5, p + head, p + head + size, p + n);
+    let trace = emdf_payloads::bit_trace(p, p + 5, p + head, p + head + size, p + n);
     put_record(
         table,
         row,
@@ -122,7 +122,7 @@ fn put_found(table: &mut [u8], row: usize, s: &[u8], c: BitCursor) -> BitCursor
     requires { ⌜ row + 216 ≤ length (now table) ⌝ }
     ensures { λ r. ⌜ ((found : PayloadRecord) (next : BitCursor) → stepAt (now (s .entry)) c ≡ Payload found next → (now (table .exit) ≡ sets (now (table .entry)) row (words (recordWords found))) × (r ≡ next)) ⌝ }
 {
-    let step = openjoc_emdf::next_payload(s, c);
+    let step = emdf_payloads::next_payload(s, c);
     let PayloadStep::Payload(record, next) = step else {
         // An accepted carrier has a payload here.
         return c;

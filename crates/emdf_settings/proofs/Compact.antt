@@ -2,71 +2,34 @@
 use mathlib.Core.Path.{_≡_, refl, sym, ap, _∙_}
 use mathlib.Core.Bool.{Bool, true, false, _||_}
 use mathlib.Core.List.{List}
-use Prim.Native.Nat.{ℕ, suc, zero, _+_, _-_, _*_, _/_, _%_, _^_, _≤_, _<_}
+use Prim.Native.Nat.{ℕ, suc, zero, _+_, _-_, _*_, _%_, _^_, _≤_, _<_}
 use native.Mathlib.Omega.{arith}
 use native.Mathlib.Decide.{decLe}
 use lib.Dec.{leb→le, eqb, lit≤, lit<, eqb→eq}
-use lib.Pow.{shl-shr, shr-shr, field, low, pow-mono}
+use lib.Pow.{low, pow-mono}
 use borrow.Author.Tests.{ne-eqb, lt-ltb, le-leb}
 use Rattle.openjoc_bitio.specs.Choice.{if_then_else_}
-use Rattle.openjoc_bitio.specs.Bits.{bitsValue, windowAt}
-use Rattle.openjoc_bitio.proofs.Bits.{value-split, value-range, window-top}
+use Rattle.openjoc_bitio.specs.Bits.{bitsValue}
+use Rattle.openjoc_bitio.proofs.Bits.{value-split, value-range}
 use Rattle.emdf_format.specs.Syntax.{escape}
 use Rattle.emdf_format.specs.Contents.{_&_, isPresent, isOne, hasAligned, hasPriority}
 use Rattle.emdf_format.specs.Reader.{got, Reader, _>>=_, give, ask, choose, bits, groupsFrom, variableBits, extendedValue, present, flagged}
 use Rattle.emdf_format.specs.Reading.{reserved, sampleOffset, codecData, configControls, payloadConfig}
 use Rattle.emdf_format.specs.declared.Optional.{Optional}
 use Rattle.emdf_format.specs.declared.Optional.the-variants.{Absent, Present}
-use Rattle.emdf_format.proofs.Standing.{bitLimit, bind-go, ask-go, choose-this, choose-that, give-go, ask-fine, T-of, T-not-of, neqb→ne, and, both, fits, is-true}
+use Rattle.emdf_format.proofs.Standing.{bitLimit, bind-go, ask-go, choose-this, choose-that, give-go, ask-fine, T-of, T-not-of, and, both, fits, is-true}
 use Rattle.emdf_format.proofs.Loops.{bits-there}
-use Rattle.emdf_settings.specs.Words.{top, after, headLength, sizeLength, sizeValue, codecSpan, codecEnds, controlsSpan, compactControls, flaggedAfter, afterTiming, headSpan, variableSpan, variableValue, variableEnds, afterGroup, afterCodec, compactSettings, compactConfig, configLength, flaggedSpan, flaggedValue, flaggedEnds, presentSpan, presentValue}
-
--- ---- a word
-
--- the first m bits of x are those of s from position p on
-pub record Word (s : List ℕ) (p m x : ℕ) : Type 0 where
-  pub is : (n : ℕ) → n ≤ m → top n x ≡ bitsValue s p n
-
-pub word-window : (s : List ℕ) (p : ℕ) → Word s p 57 (windowAt s p)
-word-window s p = record { is = λ n h. window-top s p n h }
-
-pub word-after : {s : List ℕ} {p m x : ℕ} (a : ℕ) → m ≤ 64 → a ≤ m → Word s p m x → Word s (p + a) (m - a) (after a x)
-word-after {s} {p} {m} {x} a l h w = record { is = bits-after }
-  where
-    bits-after : (n : ℕ) → n ≤ m - a → top n (after a x) ≡ bitsValue s (p + a) n
-    bits-after n k =
-        let e = 64 - (a + n) in
-        let i : 64 ≡ n + (64 - n) = omega arith in
-        let j : 64 - n ≡ a + e = omega arith in
-        let above : x * 2 ^ a % 2 ^ 64 / 2 ^ (64 - n) ≡ x * 2 ^ a / 2 ^ (64 - n) % 2 ^ n = ap (λ (z : ℕ). x * 2 ^ a % 2 ^ z / 2 ^ (64 - n)) i ∙ field (x * 2 ^ a) n (64 - n) in
-        let moved : x * 2 ^ a / 2 ^ (64 - n) ≡ x / 2 ^ e = ap (λ (z : ℕ). x * 2 ^ a / 2 ^ z) j ∙ sym (shr-shr (x * 2 ^ a) a e) ∙ ap (λ (z : ℕ). z / 2 ^ e) (shl-shr x a) in
-        above ∙ ap (λ (z : ℕ). z % 2 ^ n) (moved ∙ w .is (a + n) (omega arith) ∙ value-split s p a n) ∙ low (bitsValue s p a) n (value-range s (p + a) n)
-
--- a flag that is not 0
-flag-set : (v : ℕ) → v < 2 → eqb v 0 ≡ false → v ≡ 1
-flag-set v l h = let f = neqb→ne v 0 (T-not-of h) in elim (decLe 1 v) [
-  | yes k ↦ omega arith
-  | no k ↦ absurd (f (omega arith))
-]
+use Rattle.emdf_fields.specs.Word.{top, after}
+use Rattle.emdf_settings.specs.Words.{headLength, sizeLength, sizeValue, codecSpan, codecEnds, controlsSpan, compactControls, flaggedAfter, afterTiming, headSpan, variableSpan, variableValue, variableEnds, afterGroup, afterCodec, compactSettings, compactConfig, configLength, flaggedSpan, flaggedValue, flaggedEnds, presentSpan, presentValue}
+use Rattle.emdf_fields.proofs.Word.{Word, word-after, word-low, word-bits, flag-set, flag-range}
 
 -- ---- bits that are there, from a word
 
-module _ {s : List ℕ} {p m x : ℕ} (w : Word s p m x) where
-  -- the k low ones of the first n + k bits
-  pub word-low : (n k : ℕ) → n + k ≤ m → top (n + k) x % 2 ^ k ≡ bitsValue s (p + n) k
-  word-low n k h = ap (λ (v : ℕ). v % 2 ^ k) (w .is (n + k) h ∙ value-split s p n k) ∙ low (bitsValue s p n) k (value-range s (p + n) k)
-
-  flag-range : 1 ≤ m → top 1 x < 2
-  flag-range h = rw (w .is 1 h) (value-range s p 1)
-
 module _ {s : List ℕ} {p m x : ℕ} (w : Word s p m x) (e : ℕ) where
-  pub word-bits : (n : ℕ) → n ≤ 64 → n ≤ m → p + n ≤ bitLimit s e → bits n s e p ≡ got (top n x) (p + n)
-  word-bits n h k l = bits-there n s e p h (omega arith) ∙ ap (λ (v : ℕ). got v (p + n)) (sym (w .is n k))
-
   -- n bits, where they are there
   pub word-present : (there : Bool) (n : ℕ) → n ≤ 64 → n ≤ m → p + presentSpan there n ≤ bitLimit s e → present there (bits n) s e p ≡ got (presentValue there n x) (p + presentSpan there n)
   unfolding present presentSpan presentValue
-  word-present true n h k l = choose-this true _ _ tt (bind-go (bits n) _ (word-bits n h k l) (give-go s e refl refl))
+  word-present true n h k l = choose-this true _ _ tt (bind-go (bits n) _ (word-bits w e n h k l) (give-go s e refl refl))
   word-present false n h k l = choose-that false _ _ tt (give-go s e refl (omega arith))
 
   -- a flag and, where it is set, a field of n bits and a bit that is zero
@@ -80,14 +43,14 @@ module _ {s : List ℕ} {p m x : ℕ} (w : Word s p m x) (e : ℕ) where
           → flagged f s e p ≡ got (if z then Absent else Present (top n (after 1 x))) (p + (if z then 1 else n + 2))
       by-flag true i h t l =
           let o : top 1 x ≡ 0 = eqb→eq (top 1 x) 0 (T-of i) in
-          bind-go (bits 1) _ (word-bits 1 (lit≤ tt) (omega arith) l) (choose-that _ _ _ (rw o tt) (give-go s e refl refl))
+          bind-go (bits 1) _ (word-bits w e 1 (lit≤ tt) (omega arith) l) (choose-that _ _ _ (rw o tt) (give-go s e refl refl))
       by-flag false i h t l =
           let o : top 1 x ≡ 1 = flag-set (top 1 x) (flag-range w (omega arith)) i in
           let y : p + (n + 1) ≡ p + 1 + n = omega arith in
           let z : n + 1 + 1 ≡ n + 2 = omega arith in
           let a : bitsValue s (p + 1 + n) 1 ≡ 0 = ap (λ (q : ℕ). bitsValue s q 1) (sym y) ∙ sym (word-low w (n + 1) 1 (omega arith)) ∙ ap (λ (q : ℕ). top q x % 2) z ∙ eqb→eq (top (n + 2) x % 2) 0 (T-of t) in
           let b : bitsValue s (p + 1) n ≡ top n (after 1 x) = sym (word-after 1 k (omega arith) w .is n (omega arith)) in
-          bind-go (bits 1) _ (word-bits 1 (lit≤ tt) (omega arith) (omega arith)) (choose-this _ _ _ (rw o tt) (bind-go f _ (g a l) (give-go s e (ap Present b) refl)))
+          bind-go (bits 1) _ (word-bits w e 1 (lit≤ tt) (omega arith) (omega arith)) (choose-this _ _ _ (rw o tt) (bind-go f _ (g a l) (give-go s e (ap Present b) refl)))
 
 -- ---- the three fields that are flagged
 
@@ -321,6 +284,15 @@ controls-range t x = go (eqb (top 1 x) 1) t (eqb (top 2 x) 0)
     go false false false = (omega arith, omega arith)
 
 -- ---- all of the settings
+
+-- settings other than 64 bits long are compact
+pub compact-unless : (x : ℕ) → (configLength x ≡ 64 → ⊥) → compactSettings x ≡ true
+unfolding configLength
+compact-unless x h = go (compactSettings x) refl
+  where
+    go : (t : Bool) → compactSettings x ≡ t → compactSettings x ≡ true
+    go true i = i
+    go false i = absurd (h (rw i))
 
 compact-span : (x : ℕ) → compactSettings x ≡ true → headSpan x ≤ 41
 unfolding compactSettings

@@ -10,7 +10,8 @@ use borrow.Author.Tests.{eq-eqb}
 use Rattle.openjoc_bitio.specs.Choice.{if_then_else_}
 use Rattle.emdf_format.specs.Contents.{_&_, isPresent}
 use Rattle.emdf_format.specs.declared.Optional.the-variants.{Absent, Present}
-use Rattle.emdf_settings.specs.Words.{top, after, flaggedSpan, flaggedValue, flaggedEnds, variableSpan, variableEnds, codecSpan, codecEnds, controlsSpan, compactSettings, configLength}
+use Rattle.emdf_fields.specs.Word.{top, after}
+use Rattle.emdf_settings.specs.Words.{flaggedSpan, flaggedValue, flaggedEnds, variableSpan, variableEnds, codecSpan, codecEnds, controlsSpan, compactSettings, configLength}
 
 -- ---- spans
 

@@ -2,20 +2,14 @@
 -- group id one or two, what is reserved is zero, and at most 41 bits stand before discard: then a word holds them with the id before
 -- them. Assumes nothing.
 use mathlib.Core.Bool.{Bool, _||_}
-use Prim.Native.Nat.{ℕ, _+_, _-_, _*_, _/_, _%_, _^_}
+use Prim.Native.Nat.{ℕ, _+_, _-_, _*_, _%_, _^_}
 use lib.Dec.{eqb, leb}
 use Rattle.openjoc_bitio.specs.Choice.{if_then_else_}
 use Rattle.emdf_format.specs.Contents.{_&_, isPresent, isOne, hasAligned, hasPriority}
 use Rattle.emdf_format.specs.declared.Optional.{Optional}
 use Rattle.emdf_format.specs.declared.Optional.the-variants.{Absent, Present}
 use Rattle.emdf_format.specs.declared.EmdfPayloadConfig.{EmdfPayloadConfig}
-
--- the first w bits of a word, and the word after them
-abbrev pub top : ℕ → ℕ → ℕ
-top w x = x / 2 ^ (64 - w)
-
-abbrev pub after : ℕ → ℕ → ℕ
-after w x = x * 2 ^ w % 2 ^ 64
+use Rattle.emdf_fields.specs.Word.{top, after}
 
 -- ---- a flag and, where it is set, w bits and a bit that is zero: a sample offset, or a variable field of one group
 

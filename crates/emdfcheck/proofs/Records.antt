@@ -9,9 +9,11 @@ use Rattle.openjoc_bitio.specs.declared.BitCursor.{BitCursor}
 use Rattle.emdf_format.specs.Reading.{Found, reading}
 use Rattle.emdf_format.specs.declared.PayloadRecord.{PayloadRecord}
 use Rattle.emdf_format.specs.Calls.{recordsOf}
-use Rattle.openjoc_emdf.specs.declared.PayloadStep.{PayloadStep}
-use Rattle.openjoc_emdf.specs.declared.PayloadStep.the-variants as PayloadStep
-use Rattle.openjoc_emdf.proofs.Walk.{Listed, listed-step, read-first, stepAt, step-found}
+use Rattle.emdf_payloads.specs.declared.PayloadStep.{PayloadStep}
+use Rattle.emdf_payloads.specs.declared.PayloadStep.the-variants as PayloadStep
+use Rattle.emdf_payloads.specs.Payloads.{Listed, stepAt}
+use Rattle.emdf_payloads.proofs.Walk.{listed-step, step-found}
+use Rattle.openjoc_emdf.proofs.Opening.{read-first}
 use Rattle.emdfcheck.specs.Parts.{recordsIn, Opened}
 use Rattle.emdf_text.specs.Lines.{Put}
 use Rattle.emdfcheck.specs.Output.{recordLine, recordLines}

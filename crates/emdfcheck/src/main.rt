@@ -13,6 +13,7 @@ ghost use Rattle.emdf_text.specs.Lines.{Put};
 ghost use Rattle.emdfcheck.specs.Parts.{isNonEmdf, recordsIn, Opened};
 use emdf_format::EmdfError;
 use emdf_format::PayloadRecord;
+use emdf_payloads::PayloadStep;
 use libc::STDIN_FILENO;
 use libc::STDOUT_FILENO;
 use openjoc_bitio::BitCursor;
@@ -20,7 +21,6 @@ use openjoc_bitio::BitError;
 use openjoc_emdf::CarrierClassification;
 use openjoc_emdf::OpenAnswer;
 use openjoc_emdf::ParsedEmdf;
-use openjoc_emdf::PayloadStep;
 
 // The longest input, in bytes.
 const MOST_BYTES: usize = 65536;
@@ -118,7 +118,7 @@ fn put_records(bytes: &[u8], first: BitCursor, out: &mut [u8], start: usize) -> 
     let mut at = first;
     let mut end = start;
     loop {
-        let step = openjoc_emdf::next_payload(bytes, at);
+        let step = emdf_payloads::next_payload(bytes, at);
         match step {
             PayloadStep::Payload(payload, next) => {
                 end = put_record(out, end, payload);

@@ -20,11 +20,13 @@ use Rattle.emdf_format.specs.declared.JocProfileAnswer.the-variants as JocProfi
 use Rattle.emdf_format.specs.declared.EmdfError.{EmdfError}
 use Rattle.emdf_format.specs.declared.PayloadRecord.{PayloadRecord}
 use Rattle.emdf_format.specs.declared.PlacedConfig.{PlacedConfig}
-use Rattle.openjoc_emdf.specs.declared.PayloadStep.the-variants as PayloadStep
+use Rattle.emdf_payloads.specs.declared.PayloadStep.the-variants as PayloadStep
 use Rattle.openjoc_emdf.specs.Answers.{openAnswer}
 use Rattle.openjoc_emdf.specs.declared.OpenAnswer.{OpenAnswer}
 use Rattle.openjoc_emdf.specs.declared.OpenAnswer.the-variants as OpenAnswer
-use Rattle.openjoc_emdf.proofs.Walk.{unopened, Listed, stepAt, First, step-found, step-ended}
+use Rattle.openjoc_emdf.proofs.Opening.{unopened}
+use Rattle.emdf_payloads.specs.Payloads.{Listed, stepAt}
+use Rattle.emdf_payloads.proofs.Walk.{First, step-found, step-ended}
 use Rattle.joc_profile.specs.Pair.{countOf, seenMore, seenNext, seenFrom, pairOf, placedOf, judgedPair, openError}
 use Rattle.joc_profile.specs.declared.PairAnswer.{PairAnswer}
 use Rattle.joc_profile.specs.declared.PairAnswer.the-variants.{Pair}

@@ -6,13 +6,13 @@ ghost use Prim.Native.Nat.{_+_, _≤_, _<_, _^_};
 ghost use lib.ListN.{take, drop};
 ghost use Rattle.openjoc_bitio.specs.declared.BitCursor.{BitCursor};
 ghost use Rattle.emdf_format.specs.Reading.{Found};
-ghost use Rattle.emdf_format.specs.Profile.{meets, lets, differ, onOamd, table56, marks, deviations, word, ones, allPass, meetsProfile, status, judge, verdict};
+ghost use Rattle.emdf_format.specs.Profile.{meets, differ, onOamd, table56, marks, deviations, word, ones, allPass, meetsProfile, status, judge, verdict};
 ghost use Rattle.emdf_format.specs.declared.PayloadRecord.{PayloadRecord};
 ghost use Rattle.emdf_format.specs.declared.JocRole.the-variants.{Oamd};
 ghost use Rattle.emdf_format.specs.declared.JocProfileValue.the-variants.{Unsigned};
 ghost use Rattle.emdf_format.specs.declared.JocValidationProfile.the-variants.{EtsiStrict, ObservedVendorCompat};
-ghost use Rattle.openjoc_emdf.specs.declared.PayloadStep.the-variants.{Payload};
-ghost use Rattle.openjoc_emdf.proofs.Walk.{Listed, stepAt};
+ghost use Rattle.emdf_payloads.specs.declared.PayloadStep.the-variants.{Payload};
+ghost use Rattle.emdf_payloads.specs.Payloads.{Listed, stepAt};
 ghost use Rattle.joc_profile.specs.declared.Seen.the-variants.{One};
 ghost use Rattle.joc_profile.specs.Pair.{countOf, seenNext, pairOf, judgedPair, bitOf, passesAs, openError, pairError};
 use emdf_format::AllowedDeviation;
@@ -29,10 +29,10 @@ use emdf_format::OAMD_PAYLOAD_ID;
 use emdf_format::Optional;
 use emdf_format::PlacedConfig;
 use emdf_format::ValidatedJocProfile;
+use emdf_payloads::PayloadStep;
+use emdf_payloads::SkipStep;
 use openjoc_bitio::BitCursor;
 use openjoc_emdf::OpenAnswer;
-use openjoc_emdf::PayloadStep;
-use openjoc_emdf::SkipStep;
 
 // The payloads with one id: none, one with its place and its settings, or how many.
 enum Seen {
@@ -97,7 +97,7 @@ fn find_pair(s: &[u8], first: BitCursor) -> PairAnswer
     let mut place: usize = 0;
     let mut at = first;
     loop {
-        let step = openjoc_emdf::skip_payload(s, at);
+        let step = emdf_payloads::skip_payload(s, at);
         match step {
             SkipStep::Past(id, next) => {
                 oamd = seen_next(oamd, OAMD_PAYLOAD_ID, place, id, s, at);
@@ -134,7 +134,7 @@ fn seen_next(before: Seen, wanted: u64, place: usize, id: u64, s: &[u8], at: Bit
 fn first_seen(place: usize, s: &[u8], at: BitCursor) -> Seen
     ensures { λ r. ⌜ ((p : PayloadRecord) (next : BitCursor) → stepAt (now (s .entry)) at ≡ Payload p next → r ≡ One (record { place = place; config = p .config })) ⌝ }
 {
-    match openjoc_emdf::next_payload(s, at) {
+    match emdf_payloads::next_payload(s, at) {
         PayloadStep::Payload(record, _) => {
             let config = record.config;
             Seen::One(PlacedConfig { place, config })

@@ -1,42 +1,26 @@
 -- How the reading of a container goes on after its payloads, its protection and its padding. Assumes nothing.
 use mathlib.Core.Path.{_≡_, refl, sym, ap, _∙_}
 use mathlib.Core.List.{List}
-use Prim.Native.Nat.{ℕ, zero, suc, _+_, _≤_}
+use Prim.Native.Nat.{ℕ, zero, suc, _≤_}
 use native.Mathlib.Omega.{arith}
-use lib.ListN.{length}
 use Rattle.openjoc_bitio.specs.Cursor.{bitsRemaining}
 use Rattle.openjoc_bitio.specs.declared.BitCursor.{BitCursor}
-use Rattle.emdf_format.specs.Reader.{Read, got, refused, Reader, _>>=_, cursorAt, remaining, octets}
+use Rattle.emdf_format.specs.Reader.{Read, got, refused, Reader, andThen, _>>=_, give, cursorAt, remaining, octets}
 use Rattle.emdf_format.specs.Contents.{protectionLength}
-use Rattle.emdf_format.specs.Reading.{Found as Payload}
+use Rattle.emdf_format.specs.Reading.{padding}
 use Rattle.emdf_format.specs.declared.EmdfError.{EmdfError}
 use Rattle.emdf_format.proofs.Standing.{bind-go}
-use Rattle.openjoc_emdf.specs.Answers.{countFrom, protectionBytes, bytesAnswer, paddingAnswer, containerAnswer, countError, bytesError, paddingError}
+use Rattle.emdf_fields.specs.Fields.{fieldAnswer, fieldError}
+use Rattle.emdf_fields.specs.declared.FieldAnswer.{FieldAnswer}
+use Rattle.emdf_fields.specs.declared.FieldAnswer.the-variants as FieldAnswer
+use Rattle.openjoc_emdf.specs.Answers.{protectionBytes, bytesAnswer, paddingValue, containerAnswer, bytesError}
 use Rattle.openjoc_emdf.specs.declared.ProtectionBytes.{ProtectionBytes}
-use Rattle.openjoc_emdf.specs.declared.CountAnswer.{CountAnswer}
-use Rattle.openjoc_emdf.specs.declared.CountAnswer.the-variants as CountAnswer
 use Rattle.openjoc_emdf.specs.declared.BytesAnswer.{BytesAnswer}
 use Rattle.openjoc_emdf.specs.declared.BytesAnswer.the-variants as BytesAnswer
-use Rattle.openjoc_emdf.specs.declared.PaddingAnswer.{PaddingAnswer}
-use Rattle.openjoc_emdf.specs.declared.PaddingAnswer.the-variants as PaddingAnswer
 use Rattle.openjoc_emdf.specs.declared.ContainerAnswer.the-variants as ContainerAnswer
-use Rattle.openjoc_emdf.proofs.Answers.{Found, ends}
+use Rattle.emdf_fields.proofs.Answers.{Found, ends}
 
 -- ---- what the answers say
-
-pub count-found : (e : ℕ) (x : Read (List Payload)) {n : ℕ} {c : BitCursor} → countFrom 0 e x ≡ CountAnswer.Counted n c → (xs : List Payload) × (length xs ≡ n) × Found x e xs c
-unfolding countFrom
-count-found e (got xs q) {n} {c} h =
-    let k : 0 + length xs ≡ n = cc in
-    let a : length xs ≡ n = omega arith in
-    let b : cursorAt e q ≡ c = cc in
-    (xs, a, record { is = rw (← b); end = rw (← b) })
-count-found e (refused why q) h = absurd (let z : _≡_ {A = ℕ} 0 1 = cc in omega arith)
-
-count-ended : (e : ℕ) (x : Read (List Payload)) {why : EmdfError} → countFrom 0 e x ≡ CountAnswer.Refused why → (q : ℕ) × (x ≡ refused why q)
-unfolding countFrom
-count-ended e (got xs q) h = absurd (let z : _≡_ {A = ℕ} 0 1 = cc in omega arith)
-count-ended e (refused why′ q) {why} h = let a : why′ ≡ why = cc in (q, rw a)
 
 pub bytes-found : (e : ℕ) (x : Read (List ℕ)) {b : ProtectionBytes} {c : BitCursor} → bytesAnswer e x ≡ BytesAnswer.Bytes b c → (bs : List ℕ) × (protectionBytes bs ≡ b) × Found x e bs c
 unfolding bytesAnswer
@@ -51,15 +35,15 @@ unfolding bytesAnswer
 bytes-ended e (got bs q) h = absurd (let z : _≡_ {A = ℕ} 0 1 = cc in omega arith)
 bytes-ended e (refused why′ q) {why} h = let a : why′ ≡ why = cc in (q, rw a)
 
-padding-fine : (x : Read (Unit {0})) → paddingAnswer x ≡ PaddingAnswer.Padded → (q : ℕ) × (x ≡ got tt q)
-unfolding paddingAnswer
-padding-fine (got u q) h = (q, refl)
-padding-fine (refused why q) h = absurd (let z : _≡_ {A = ℕ} 0 1 = cc in omega arith)
+padding-fine : (e : ℕ) (x : Read (Unit {0})) {v : ℕ} {c : BitCursor} → fieldAnswer e (andThen x (λ u q. got 0 q)) ≡ FieldAnswer.Value v c → (q : ℕ) × (x ≡ got tt q)
+unfolding fieldAnswer andThen
+padding-fine e (got u q) h = (q, refl)
+padding-fine e (refused why q) h = absurd (let z : _≡_ {A = ℕ} 0 1 = cc in omega arith)
 
-padding-ended : (x : Read (Unit {0})) {why : EmdfError} → paddingAnswer x ≡ PaddingAnswer.Refused why → (q : ℕ) × (x ≡ refused why q)
-unfolding paddingAnswer
-padding-ended (got u q) h = absurd (let z : _≡_ {A = ℕ} 0 1 = cc in omega arith)
-padding-ended (refused why′ q) {why} h = let a : why′ ≡ why = cc in (q, rw a)
+padding-ended : (e : ℕ) (x : Read (Unit {0})) {why : EmdfError} {c : BitCursor} → fieldAnswer e (andThen x (λ u q. got 0 q)) ≡ FieldAnswer.Refused why c → (q : ℕ) × (x ≡ refused why q)
+unfolding fieldAnswer andThen
+padding-ended e (got u q) h = absurd (let z : _≡_ {A = ℕ} 0 1 = cc in omega arith)
+padding-ended e (refused why′ q) {why} h = let a : why′ ≡ why = cc in (q, rw a)
 
 -- ---- how the definition goes on
 
@@ -73,36 +57,28 @@ module _ {B Z : Type 0} {r : Z} (g : ℕ → Read B → Z) where
   left k s e p z = z ∙ ap (g e) (sym (bind-go remaining k (remaining-is s e p) refl))
 
   -- padding that is fine: only what is given follows it
-  pub padded : (m : Reader (Unit {0})) (k : Unit {0} → Reader B) (s : List ℕ) (e p : ℕ) {a : PaddingAnswer}
-      → a ≡ paddingAnswer (m s e p) → a ≡ PaddingAnswer.Padded → ((q : ℕ) → r ≡ g e (k tt s e q)) → r ≡ g e ((m >>= k) s e p)
-  padded m k s e p i t z =
-      let d = padding-fine (m s e p) (sym i ∙ t) in
-      z (d .0) ∙ ap (g e) (sym (bind-go m k (d .1) refl))
+  pub padded : (k : Unit {0} → Reader B) (s : List ℕ) (e p : ℕ) {a : FieldAnswer} {v : ℕ} {c : BitCursor}
+      → a ≡ fieldAnswer e (paddingValue s e p) → a ≡ FieldAnswer.Value v c → ((q : ℕ) → r ≡ g e (k tt s e q)) → r ≡ g e ((padding >>= k) s e p)
+  unfolding paddingValue _>>=_ give
+  padded k s e p i t z =
+      let d = padding-fine e (padding s e p) (sym i ∙ t) in
+      z (d .0) ∙ ap (g e) (sym (bind-go padding k (d .1) refl))
 
 module _ {B Z : Type 0} (g : ℕ → Read B → Z) (h : EmdfError → Z) (refuses : (e q : ℕ) (why : EmdfError) → h why ≡ g e (refused why q)) where
-  pub by-count : (m : Reader (List Payload)) (k : List Payload → Reader B) (s : List ℕ) (e p : ℕ) {a : CountAnswer} {why x : EmdfError}
-      → a ≡ countFrom 0 e (m s e p) → a ≡ CountAnswer.Refused why → x ≡ countError a → h x ≡ g e ((m >>= k) s e p)
-  unfolding countError
-  by-count m k s e p {a} {why} {x} i t z =
-      let d = count-ended e (m s e p) (sym i ∙ t) in
-      let y : x ≡ why = rw t at z in
-      ends g m k s e p (d .1) (ap h y ∙ refuses e (d .0) why)
-
   pub by-bytes : (m : Reader (List ℕ)) (k : List ℕ → Reader B) (s : List ℕ) (e p : ℕ) {a : BytesAnswer} {why x : EmdfError}
-      → a ≡ bytesAnswer e (m s e p) → a ≡ BytesAnswer.Refused why → x ≡ bytesError a → h x ≡ g e ((m >>= k) s e p)
-  unfolding bytesError
+      → a ≡ bytesAnswer e (m s e p) → a ≡ BytesAnswer.Refused why → x ≡ bytesError a x → h x ≡ g e ((m >>= k) s e p)
   by-bytes m k s e p {a} {why} {x} i t z =
       let d = bytes-ended e (m s e p) (sym i ∙ t) in
       let y : x ≡ why = rw t at z in
       ends g m k s e p (d .1) (ap h y ∙ refuses e (d .0) why)
 
-  pub by-padding : (m : Reader (Unit {0})) (k : Unit {0} → Reader B) (s : List ℕ) (e p : ℕ) {a : PaddingAnswer} {why x : EmdfError}
-      → a ≡ paddingAnswer (m s e p) → a ≡ PaddingAnswer.Refused why → x ≡ paddingError a → h x ≡ g e ((m >>= k) s e p)
-  unfolding paddingError
-  by-padding m k s e p {a} {why} {x} i t z =
-      let d = padding-ended (m s e p) (sym i ∙ t) in
+  pub by-padding : (k : Unit {0} → Reader B) (s : List ℕ) (e p : ℕ) {a : FieldAnswer} {why x : EmdfError} {c : BitCursor}
+      → a ≡ fieldAnswer e (paddingValue s e p) → a ≡ FieldAnswer.Refused why c → x ≡ fieldError a x → h x ≡ g e ((padding >>= k) s e p)
+  unfolding paddingValue _>>=_ give
+  by-padding k s e p {a} {why} {x} i t z =
+      let d = padding-ended e (padding s e p) (sym i ∙ t) in
       let y : x ≡ why = rw t at z in
-      ends g m k s e p (d .1) (ap h y ∙ refuses e (d .0) why)
+      ends g padding k s e p (d .1) (ap h y ∙ refuses e (d .0) why)
 
 pub container-refuses : (e q : ℕ) (why : EmdfError) → ContainerAnswer.Refused why ≡ containerAnswer e (refused why q)
 unfolding containerAnswer

@@ -1,9 +1,5 @@
-pub mod Answers
-pub mod Variable
-pub mod Turns
 pub mod Octets
 pub mod Words
 pub mod Ends
 pub mod Header
-pub mod Walk
-pub mod Compact
+pub mod Opening

@@ -1,38 +1,33 @@
 -- Octets that stand at a position, as numbers. Assumes nothing.
 use mathlib.Core.Path.{_≡_, refl, sym, ap, _∙_}
 use mathlib.Core.List.{List}
-use Prim.Native.Nat.{ℕ, zero, suc, _+_, _-_, _*_, _%_, _≤_, _<_}
+use Prim.Native.Nat.{ℕ, zero, suc, _+_, _-_, _*_, _≤_, _<_}
 use native.Mathlib.Omega.{arith}
 use native.Mathlib.Nat.{add-zero, le-refl}
 use lib.ListN.{length, take, drop}
 use lib.Dec.{leb, eqb}
 use borrow.Author.Tests.{le-leb, lt-leb, eq-eqb, ne-eqb}
 use mathlib.Core.Bool.{Bool, true, false}
-use native.Mathlib.Decide.{decLe}
 use Rattle.openjoc_bitio.specs.Choice.{if_then_else_}
 use Rattle.openjoc_bitio.specs.Bits.{bitsValue}
 use Rattle.openjoc_bitio.specs.Cursor.{bitsRemaining, past, readBits}
 use Rattle.openjoc_bitio.specs.declared.BitError.{BitError}
 use Rattle.openjoc_bitio.specs.declared.BitError.the-variants.{EndOfInput}
-use Rattle.openjoc_bitio.specs.declared.BitsAnswer.the-variants.{Value, Refused}
+use Rattle.openjoc_bitio.specs.declared.BitsAnswer.the-variants as BitsAnswer
 use Rattle.openjoc_bitio.specs.declared.BitCursor.{BitCursor}
 use Rattle.openjoc_bitio.proofs.Bits.{value-none, value-split}
 use Rattle.emdf_format.specs.Calls.{octetsAt}
 use Rattle.emdf_format.specs.Contents.{protectionLength}
 use Rattle.emdf_format.specs.Reader.{got, refused, ask, cursorAt, remaining, bits, octets}
 use Rattle.emdf_format.specs.Reading.{padding}
-use Rattle.emdf_format.specs.declared.EmdfError.the-variants.{Bit, ExcessPadding, NonzeroPadding}
-use Rattle.emdf_format.proofs.Standing.{bitLimit, remaining-limit, T-of, T-not-of, bind-go, ask-go, ask-refuses, ask-fine}
-use Rattle.emdf_format.proofs.Loops.{bits-there, octets-there, octets-short}
-use Rattle.openjoc_emdf.specs.Answers.{bytesNumber, protectionBytes, bytesAnswer, valueThere, cursorAnswer, paddingAnswer}
-use Rattle.openjoc_emdf.specs.declared.CursorAnswer.the-variants as CursorAnswer
-use Rattle.openjoc_emdf.specs.declared.PaddingAnswer.the-variants as PaddingAnswer
+use Rattle.emdf_format.specs.declared.EmdfError.the-variants.{ExcessPadding, NonzeroPadding}
+use Rattle.emdf_format.proofs.Standing.{bitLimit, remaining-limit, T-of, T-not-of, bind-go, bind-no, give-go, ask-go, ask-refuses, ask-fine}
+use Rattle.emdf_format.proofs.Loops.{bits-there}
+use Rattle.openjoc_emdf.specs.Answers.{bytesNumber, protectionBytes, bytesAnswer, valueThere, paddingValue}
+use Rattle.emdf_fields.proofs.Octets.{length-octets-at, Passed}
+use Rattle.emdf_fields.specs.Fields.{fieldAnswer}
+use Rattle.emdf_fields.specs.declared.FieldAnswer.the-variants.{Value, Refused}
 use Rattle.openjoc_emdf.specs.declared.BytesAnswer.the-variants as BytesAnswer
-
-pub length-octets-at : (s : List ℕ) (p n : ℕ) → length (octetsAt s p n) ≡ n
-unfolding octetsAt
-length-octets-at s p zero = refl
-length-octets-at s p (suc n) = ap suc (length-octets-at s (p + 8) n)
 
 -- octets, taken after k bits that make v
 octets-number : (s : List ℕ) (p k n : ℕ) → bytesNumber (bitsValue s p k) (octetsAt s (p + k) n) ≡ bitsValue s p (k + 8 * n)
@@ -100,19 +95,19 @@ short-is s p n k l =
 
 -- ---- the code's answers
 
-pub value-read : (s : List ℕ) (c : BitCursor) (n : ℕ) {v : ℕ} {d : BitCursor} → n ≤ 64 → readBits s c n ≡ Value v d → v ≡ valueThere s c n
+pub value-read : (s : List ℕ) (c : BitCursor) (n : ℕ) {v : ℕ} {d : BitCursor} → n ≤ 64 → readBits s c n ≡ BitsAnswer.Value v d → v ≡ valueThere s c n
 unfolding readBits valueThere
 value-read s c n {v} {d} h k = go (leb n (bitsRemaining s c)) (simp (le-leb n 64 h) at k)
   where
-    go : (t : Bool) → (if t then Value (bitsValue s (c .position) n) (past c n) else Refused (EndOfInput n (bitsRemaining s c))) ≡ Value v d → v ≡ (if t then bitsValue s (c .position) n else 0)
+    go : (t : Bool) → (if t then BitsAnswer.Value (bitsValue s (c .position) n) (past c n) else BitsAnswer.Refused (EndOfInput n (bitsRemaining s c))) ≡ BitsAnswer.Value v d → v ≡ (if t then bitsValue s (c .position) n else 0)
     go true f = cc
     go false f = absurd (let z : _≡_ {A = ℕ} 0 1 = cc in omega arith)
 
-pub value-unread : (s : List ℕ) (c : BitCursor) (n : ℕ) {why : BitError} → n ≤ 64 → readBits s c n ≡ Refused why → 0 ≡ valueThere s c n
+pub value-unread : (s : List ℕ) (c : BitCursor) (n : ℕ) {why : BitError} → n ≤ 64 → readBits s c n ≡ BitsAnswer.Refused why → 0 ≡ valueThere s c n
 unfolding readBits valueThere
 value-unread s c n {why} h k = go (leb n (bitsRemaining s c)) (simp (le-leb n 64 h) at k)
   where
-    go : (t : Bool) → (if t then Value (bitsValue s (c .position) n) (past c n) else Refused (EndOfInput n (bitsRemaining s c))) ≡ Refused why → 0 ≡ (if t then bitsValue s (c .position) n else 0)
+    go : (t : Bool) → (if t then BitsAnswer.Value (bitsValue s (c .position) n) (past c n) else BitsAnswer.Refused (EndOfInput n (bitsRemaining s c))) ≡ BitsAnswer.Refused why → 0 ≡ (if t then bitsValue s (c .position) n else 0)
     go true f = absurd (let z : _≡_ {A = ℕ} 0 1 = cc in omega arith)
     go false f = refl
 
@@ -122,29 +117,6 @@ protection-long zero a b d = absurd (a refl)
 protection-long (suc zero) a b d = absurd (b refl)
 protection-long (suc (suc zero)) a b d = absurd (d refl)
 protection-long (suc (suc (suc c))) a b d = refl
-
--- octets that are passed over are there
-pub record Passed (s : List ℕ) (e p n : ℕ) (c : BitCursor) : Type 0 where
-  pub room : 8 * n ≤ bitLimit s e - p
-  pub is : octets n s e p ≡ got (octetsAt s p n) (c .position)
-  pub end : c .end ≡ e
-
-pub passed : (s : List ℕ) (e p n : ℕ) {c : BitCursor} → cursorAnswer e (octets n s e p) ≡ CursorAnswer.Past c → Passed s e p n c
-unfolding cursorAnswer
-passed s e p n {c} h = elim (decLe (8 * n) (bitLimit s e - p)) [ yes l ↦ fine l | no l ↦ short (omega arith) ]
-  where
-    fine : 8 * n ≤ bitLimit s e - p → Passed s e p n c
-    fine l =
-        let o = octets-there n s e p l in
-        let k : CursorAnswer.Past (cursorAt e (p + 8 * n)) ≡ CursorAnswer.Past c = rw o at h in
-        let b : cursorAt e (p + 8 * n) ≡ c = cc in
-        record { room = l; is = rw (← b) o; end = rw (← b) }
-
-    short : bitLimit s e - p < 8 * n → Passed s e p n c
-    short l =
-        let o = octets-short n s e p l in
-        let k : CursorAnswer.Refused (Bit (EndOfInput 8 ((bitLimit s e - p) % 8))) ≡ CursorAnswer.Past c = rw o at h in
-        absurd (let z : _≡_ {A = ℕ} 0 1 = cc in omega arith)
 
 -- ---- padding
 
@@ -163,23 +135,23 @@ module _ (s : List ℕ) (e p : ℕ) where
   all-there : rest ≤ 7 → bits rest s e p ≡ got (bitsValue s p rest) (p + rest)
   all-there h = bits-there rest s e p (omega arith) (omega (arith, remaining-limit s e p))
 
-  pub pad-excess : 7 < rest → PaddingAnswer.Refused (ExcessPadding rest) ≡ paddingAnswer (padding s e p)
-  unfolding padding paddingAnswer
-  pad-excess h = rw (bind-go remaining _ left (ask-refuses _ _ _ s e p (T-not-of (lt-leb rest 7 h))))
+  pub pad-excess : 7 < rest → Refused (ExcessPadding rest) (cursorAt e p) ≡ fieldAnswer e (paddingValue s e p)
+  unfolding padding paddingValue fieldAnswer
+  pad-excess h = rw (bind-no padding _ (bind-go remaining _ left (ask-refuses _ _ _ s e p (T-not-of (lt-leb rest 7 h)))))
 
-  pub pad-nonzero : rest ≤ 7 → (bitsValue s p rest ≡ 0 → ⊥) → PaddingAnswer.Refused NonzeroPadding ≡ paddingAnswer (padding s e p)
-  unfolding padding paddingAnswer
+  pub pad-nonzero : rest ≤ 7 → (bitsValue s p rest ≡ 0 → ⊥) → Refused NonzeroPadding (cursorAt e (p + rest)) ≡ fieldAnswer e (paddingValue s e p)
+  unfolding padding paddingValue fieldAnswer
   pad-nonzero h k =
-      rw (bind-go remaining _ left (ask-go _ _ _ (T-of (le-leb rest 7 h)) (bind-go (bits rest) _ (all-there h) (asked-no (bitsValue s p rest) s e (p + rest) k))))
+      rw (bind-no padding _ (bind-go remaining _ left (ask-go _ _ _ (T-of (le-leb rest 7 h)) (bind-go (bits rest) _ (all-there h) (asked-no (bitsValue s p rest) s e (p + rest) k)))))
 
   pub padding-there : rest ≤ 7 → bitsValue s p rest ≡ 0 → padding s e p ≡ got tt (p + rest)
   unfolding padding
   padding-there h k =
       bind-go remaining _ left (ask-go _ _ _ (T-of (le-leb rest 7 h)) (bind-go (bits rest) _ (all-there h) (ask-fine _ _ s e (T-of (eq-eqb (bitsValue s p rest) 0 k)) refl)))
 
-  pub pad-fine : rest ≤ 7 → bitsValue s p rest ≡ 0 → PaddingAnswer.Padded ≡ paddingAnswer (padding s e p)
-  unfolding paddingAnswer
-  pad-fine h k = rw (padding-there h k)
+  pub pad-fine : rest ≤ 7 → bitsValue s p rest ≡ 0 → Value 0 (cursorAt e (p + rest)) ≡ fieldAnswer e (paddingValue s e p)
+  unfolding paddingValue fieldAnswer
+  pad-fine h k = rw (bind-go padding _ (padding-there h k) (give-go s e refl refl))
 
 pub rest-value : (s : List ℕ) (c : BitCursor) {n : ℕ} → n ≡ bitsRemaining s c → valueThere s c n ≡ bitsValue s (c .position) (bitsRemaining s c)
 rest-value s c {n} h = rw h (there s c (bitsRemaining s c) (le-refl _))

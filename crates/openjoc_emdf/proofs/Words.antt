@@ -19,7 +19,7 @@ use Rattle.emdf_format.specs.Reader.{got, cursorAt, bits, octets, extendedValue
 use Rattle.emdf_format.specs.Reading.{Found, padding, containerEnd, container}
 use Rattle.emdf_format.proofs.Standing.{bitLimit, remaining-limit, bind-go, ask-go, choose-that, give-go, T-of, T-not-of}
 use Rattle.emdf_format.proofs.Loops.{bits-there, octets-there}
-use Rattle.emdf_settings.proofs.Compact.{Word, word-window, word-bits, word-low}
+use Rattle.emdf_fields.proofs.Word.{Word, word-window, word-bits, word-low}
 use Rattle.openjoc_emdf.specs.Answers.{IsEnd, containerAfter}
 use Rattle.openjoc_emdf.proofs.Octets.{padding-there}
 

@@ -2,7 +2,7 @@ use mathlib.Core.List.{List}
 use mathlib.Core.Path.{refl, sym, _∙_}
 use borrow.Author.Needs.{needs}
 use Rattle.emdf_format.specs.Reading.{Found}
-use Rattle.openjoc_emdf.proofs.Walk.{Listed}
+use Rattle.emdf_payloads.specs.Payloads.{Listed}
 use Rattle.emdf_bodies.proofs.Place.{Ahead, span-runs, body-here, body-later, no-body, not-refused}
 use Rattle.emdf_bodies.proofs.body_from.Statement.{statement}
 use Rattle.emdf_bodies.proofs.body_from.Tie as tie

@@ -2,7 +2,8 @@ use borrow.Author.Needs.{needs}
 use mathlib.Core.Path.{sym, _∙_}
 use lib.Seq.{length-take-le}
 use denote.Ref.{now}
-use Rattle.openjoc_emdf.proofs.Walk.{Opened, opened, unopened}
+use Rattle.openjoc_emdf.specs.Answers.{Opened}
+use Rattle.openjoc_emdf.proofs.Opening.{opened, unopened}
 use Rattle.emdf_bodies.proofs.Place.{opened-body, unopened-body}
 use Rattle.emdf_bodies.proofs.find_body.Statement.{statement}
 use Rattle.emdf_bodies.proofs.find_body.Tie as tie

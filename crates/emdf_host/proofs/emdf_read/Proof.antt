@@ -5,7 +5,7 @@ use denote.Ref.{now}
 use Rattle.emdf_format.specs.Reading.{reading}
 use Rattle.openjoc_emdf.specs.Answers.{openAnswer}
 use Rattle.openjoc_emdf.specs.declared.OpenAnswer.the-variants as OpenAnswer
-use Rattle.openjoc_emdf.proofs.Walk.{opened}
+use Rattle.openjoc_emdf.proofs.Opening.{opened}
 use Rattle.emdf_host.proofs.Carriers.{refused-table, refused-carrier, read-carrier}
 use Rattle.emdf_host.proofs.emdf_read.Statement.{statement}
 use Rattle.emdf_host.proofs.emdf_read.Tie as tie

@@ -1,6 +1,6 @@
 use borrow.Author.Needs.{needs}
 use mathlib.Core.Path.{sym, _∙_}
-use Rattle.openjoc_emdf.proofs.Walk.{opened, unopened}
+use Rattle.openjoc_emdf.proofs.Opening.{opened, unopened}
 use Rattle.emdf_plan.proofs.Asking.{unread}
 use Rattle.emdf_plan.proofs.plan_edit.Statement.{statement}
 use Rattle.emdf_plan.proofs.plan_edit.Tie as tie

@@ -51,9 +51,9 @@ use Rattle.openjoc_bitio.specs.declared.BitCursor.{BitCursor}
 use Rattle.emdf_format.specs.Reading.{reading}
 use Rattle.emdf_format.specs.Calls.{tableAfter}
 use Rattle.emdf_format.specs.declared.PayloadRecord.{PayloadRecord}
-use Rattle.openjoc_emdf.specs.declared.PayloadStep.{PayloadStep}
-use Rattle.openjoc_emdf.specs.declared.PayloadStep.the-variants.{Payload, End, Refused}
-use Rattle.openjoc_emdf.proofs.Walk.{stepAt}
+use Rattle.emdf_payloads.specs.declared.PayloadStep.{PayloadStep}
+use Rattle.emdf_payloads.specs.declared.PayloadStep.the-variants.{Payload, End, Refused}
+use Rattle.emdf_payloads.specs.Payloads.{stepAt}
 use Rattle.emdf_records.specs.declared.RecordsPlan.{RecordsPlan}
 use Rattle.emdf_records.proofs.Records.{inside, never-ended, never-refused, plan-is}
 use Rattle.emdf_records.proofs.Row.{Record, recordTy, recordVal, record-tells, record-made, record-typed, row-fits, row-place, Cursor, cursorTy, cursorVal, cursor-made, cursor-typed, Step, stepTy, stepVal, step-tells, step-typed, step-record, step-cursor, Answer, answerTy, answerVal, answer-made, answer-typed, Plan, planTy, planVal, plan-tells, plan-typed, plan-answer, plan-first}

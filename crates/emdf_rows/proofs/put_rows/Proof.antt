@@ -7,7 +7,7 @@ use lib.ListN.{length}
 use lib.Seq.{sets}
 use Rattle.emdf_format.specs.Reading.{Found}
 use Rattle.emdf_format.specs.Calls.{recordsOf}
-use Rattle.openjoc_emdf.proofs.Walk.{Listed}
+use Rattle.emdf_payloads.specs.Payloads.{Listed}
 use Rattle.emdf_answers.specs.Carriers.{rowsBytes}
 use Rattle.emdf_rows.proofs.Rows.{Left, left-all, left-payload, left-step, left-none}
 use Rattle.emdf_rows.proofs.put_rows.Statement.{statement}

@@ -4,7 +4,8 @@ use borrow.Author.Tests.{eq-eqb, ne-eqb}
 use Prim.Native.Nat.{ℕ, _+_, _^_, _≤_, _<_}
 use native.Mathlib.Nat.{mod-lt}
 use lib.Pow.{pow-pos, pow-mono}
-use Rattle.emdf_settings.specs.Words.{top, after, variableValue}
+use Rattle.emdf_fields.specs.Word.{top, after}
+use Rattle.emdf_settings.specs.Words.{variableValue}
 use Rattle.emdf_settings.proofs.Words.{last-bit, top-few, second-start}
 use Rattle.emdf_settings.proofs.variable_value.Statement.{statement}
 use Rattle.emdf_settings.proofs.variable_value.Tie as tie

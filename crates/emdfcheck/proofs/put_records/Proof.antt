@@ -7,8 +7,8 @@ use lib.ListN.{length}
 use Rattle.openjoc_bitio.specs.Cursor.{bitsRemaining}
 use Rattle.emdf_format.specs.Reading.{Found, reading}
 use Rattle.emdf_format.specs.Calls.{recordsOf}
-use Rattle.openjoc_emdf.proofs.Turns.{at-payload}
-use Rattle.openjoc_emdf.proofs.Walk.{Listed}
+use Rattle.emdf_payloads.proofs.Turns.{at-payload}
+use Rattle.emdf_payloads.specs.Payloads.{Listed}
 use Rattle.emdfcheck.specs.Output.{recordLines}
 use Rattle.emdfcheck.specs.Parts.{recordsIn}
 use Rattle.emdf_text.proofs.Put.{Leaves, leaves-less}

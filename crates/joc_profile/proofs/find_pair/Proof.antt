@@ -5,8 +5,9 @@ use mathlib.Core.List.{List}
 use native.Mathlib.Omega.{arith}
 use Rattle.openjoc_bitio.specs.Cursor.{bitsRemaining}
 use Rattle.emdf_format.specs.Reading.{Found}
-use Rattle.openjoc_emdf.proofs.Turns.{at-payload}
-use Rattle.openjoc_emdf.proofs.Walk.{Listed, step-refused, skip-past, skip-end, skip-refused}
+use Rattle.emdf_payloads.proofs.Turns.{at-payload}
+use Rattle.emdf_payloads.specs.Payloads.{Listed}
+use Rattle.emdf_payloads.proofs.Walk.{step-refused, skip-past, skip-end, skip-refused}
 use Rattle.joc_profile.specs.Pair.{countOf}
 use Rattle.joc_profile.proofs.Pair.{none-seen, count-next, Same, same-start, same-next, same-end}
 use Rattle.joc_profile.proofs.find_pair.Statement.{statement}

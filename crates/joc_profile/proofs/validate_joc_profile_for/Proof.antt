@@ -2,7 +2,8 @@ use borrow.Author.Needs.{needs}
 use mathlib.Core.Path.{sym, _∙_}
 use lib.Seq.{length-take-le}
 use denote.Ref.{now}
-use Rattle.openjoc_emdf.proofs.Walk.{Opened, opened}
+use Rattle.openjoc_emdf.specs.Answers.{Opened}
+use Rattle.openjoc_emdf.proofs.Opening.{opened}
 use Rattle.joc_profile.proofs.Pair.{refused-verdict, found-verdict, never-refused}
 use Rattle.joc_profile.proofs.validate_joc_profile_for.Statement.{statement}
 use Rattle.joc_profile.proofs.validate_joc_profile_for.Tie as tie

@@ -7,7 +7,7 @@ use Rattle.emdf_format.specs.Syntax.{escape}
 use Rattle.emdf_format.specs.Reading.{container}
 use Rattle.openjoc_emdf.specs.Answers.{containerAfter, containerAnswer}
 use Rattle.openjoc_emdf.specs.declared.ContainerAnswer.the-variants.{Refused}
-use Rattle.openjoc_emdf.proofs.Answers.{field-found, via, yes, no-more, by-field}
+use Rattle.emdf_fields.proofs.Answers.{field-found, via, yes, no-more, by-field}
 use Rattle.openjoc_emdf.proofs.Ends.{container-refuses}
 use Rattle.openjoc_emdf.proofs.container_by_fields.Statement.{statement}
 use Rattle.openjoc_emdf.proofs.container_by_fields.Tie as tie

@@ -7,7 +7,7 @@ use Rattle.emdf_format.specs.Reader.{give}
 use Rattle.emdf_format.specs.Reading.{containerEnd}
 use Rattle.openjoc_emdf.specs.Answers.{containerOf, containerAnswer}
 use Rattle.openjoc_emdf.specs.declared.ContainerAnswer.the-variants.{Refused}
-use Rattle.openjoc_emdf.proofs.Answers.{field-found, via, yes, no-more, by-field}
+use Rattle.emdf_fields.proofs.Answers.{field-found, via, yes, no-more, by-field}
 use Rattle.openjoc_emdf.proofs.Ends.{bytes-found, bytes-as, padded, by-bytes, by-padding, container-refuses, short-protection}
 use Rattle.openjoc_emdf.proofs.end_by_fields.Statement.{statement}
 use Rattle.openjoc_emdf.proofs.end_by_fields.Tie as tie
@@ -95,19 +95,19 @@ enum-told-5 c = search needs
 enum-told-6 : tie.Need-enum-told-6
 enum-told-6 c = search needs
 
-padding-error-requires : tie.Need-padding-error-requires
-padding-error-requires c κs = search needs
+field-error-requires-3 : tie.Need-field-error-requires-3
+field-error-requires-3 c κs = search needs
 
 returns-6 : tie.Need-returns-6
 unfolding containerEnd containerAnswer containerOf give
-returns-6 c = λ xs len. via containerAnswer _ _ _ _ _ (field-found _ (sym (c .before .before .before .before .before .before .before .before .before .before .before .before .before .before .before .before .before .before .before .before .before .before .read-bits .ensures) ∙ c .before .before .before .before .before .before .before .before .before .before .before .before .before .before .before .before .before .before .before .before .a1 .given .1)) (via containerAnswer _ _ _ _ _ (field-found _ (sym (c .before .before .before .before .before .before .before .before .before .before .before .before .before .before .before .before .before .before .read-bits2 .ensures) ∙ c .before .before .before .before .before .before .before .before .before .before .before .before .before .before .before .before .a2 .given .1)) (yes containerAnswer _ _ _ _ _ _ (T-not-of (ne-eqb _ _ (c .before .before .before .before .before .before .before .before .before .before .before .before .before .before .if1 .left))) (via containerAnswer _ _ _ _ _ (bytes-found _ _ (sym (bytes-as _ _ _ _ _ (c .before .before .before .before .before .before .before .before .before .before .before .before .protection-bytes .ensures) (c .before .before .before .before .before .before .before .before .before .before .before .before .before .protection-length .ensures)) ∙ c .before .before .before .before .before .before .before .before .before .before .a3 .given .1) .2) (via containerAnswer _ _ _ _ _ (bytes-found _ _ (sym (bytes-as _ _ _ _ _ (c .before .before .before .before .before .before .before .protection-bytes2 .ensures) (c .before .before .before .before .before .before .before .before .protection-length2 .ensures)) ∙ c .before .before .before .before .before .a4 .given .1) .2) (by-padding containerAnswer Refused container-refuses _ _ _ _ _ (c .before .before .before .check-padding .ensures) (c .before .enum-told6 .given .1) (c .padding-error .ensures))))))
+returns-6 c = λ xs len. via containerAnswer _ _ _ _ _ (field-found _ (sym (c .before .before .before .before .before .before .before .before .before .before .before .before .before .before .before .before .before .before .before .before .before .before .read-bits .ensures) ∙ c .before .before .before .before .before .before .before .before .before .before .before .before .before .before .before .before .before .before .before .before .a1 .given .1)) (via containerAnswer _ _ _ _ _ (field-found _ (sym (c .before .before .before .before .before .before .before .before .before .before .before .before .before .before .before .before .before .before .read-bits2 .ensures) ∙ c .before .before .before .before .before .before .before .before .before .before .before .before .before .before .before .before .a2 .given .1)) (yes containerAnswer _ _ _ _ _ _ (T-not-of (ne-eqb _ _ (c .before .before .before .before .before .before .before .before .before .before .before .before .before .before .if1 .left))) (via containerAnswer _ _ _ _ _ (bytes-found _ _ (sym (bytes-as _ _ _ _ _ (c .before .before .before .before .before .before .before .before .before .before .before .before .protection-bytes .ensures) (c .before .before .before .before .before .before .before .before .before .before .before .before .before .protection-length .ensures)) ∙ c .before .before .before .before .before .before .before .before .before .before .a3 .given .1) .2) (via containerAnswer _ _ _ _ _ (bytes-found _ _ (sym (bytes-as _ _ _ _ _ (c .before .before .before .before .before .before .before .protection-bytes2 .ensures) (c .before .before .before .before .before .before .before .before .protection-length2 .ensures)) ∙ c .before .before .before .before .before .a4 .given .1) .2) (by-padding containerAnswer Refused container-refuses _ _ _ _ (c .before .before .before .check-padding .ensures) (c .before .enum-told6 .given .1) (c .field-error3 .ensures))))))
 
 returns-7 : tie.Need-returns-7
 unfolding containerEnd containerAnswer containerOf give
 returns-7 c =
     let b = bytes-found _ _ (sym (bytes-as _ _ _ _ _ (c .before .before .before .before .before .before .before .before .before .before .before .protection-bytes .ensures) (c .before .before .before .before .before .before .before .before .before .before .before .before .protection-length .ensures)) ∙ c .before .before .before .before .before .before .before .before .before .a3 .given .1) in
     let d = bytes-found _ _ (sym (bytes-as _ _ _ _ _ (c .before .before .before .before .before .before .protection-bytes2 .ensures) (c .before .before .before .before .before .before .before .protection-length2 .ensures)) ∙ c .before .before .before .before .a4 .given .1) in
-    λ xs len. via containerAnswer _ _ _ _ _ (field-found _ (sym (c .before .before .before .before .before .before .before .before .before .before .before .before .before .before .before .before .before .before .before .before .before .read-bits .ensures) ∙ c .before .before .before .before .before .before .before .before .before .before .before .before .before .before .before .before .before .before .before .a1 .given .1)) (via containerAnswer _ _ _ _ _ (field-found _ (sym (c .before .before .before .before .before .before .before .before .before .before .before .before .before .before .before .before .before .read-bits2 .ensures) ∙ c .before .before .before .before .before .before .before .before .before .before .before .before .before .before .before .a2 .given .1)) (yes containerAnswer _ _ _ _ _ _ (T-not-of (ne-eqb _ _ (c .before .before .before .before .before .before .before .before .before .before .before .before .before .if1 .left))) (via containerAnswer _ _ _ _ _ (b .2) (via containerAnswer _ _ _ _ _ (d .2) (padded containerAnswer _ _ _ _ _ (c .before .before .check-padding .ensures) (c .enum-told5 .given .1) (λ q. rw (len, b .1, d .1)))))))
+    λ xs len. via containerAnswer _ _ _ _ _ (field-found _ (sym (c .before .before .before .before .before .before .before .before .before .before .before .before .before .before .before .before .before .before .before .before .before .read-bits .ensures) ∙ c .before .before .before .before .before .before .before .before .before .before .before .before .before .before .before .before .before .before .before .a1 .given .1)) (via containerAnswer _ _ _ _ _ (field-found _ (sym (c .before .before .before .before .before .before .before .before .before .before .before .before .before .before .before .before .before .read-bits2 .ensures) ∙ c .before .before .before .before .before .before .before .before .before .before .before .before .before .before .before .a2 .given .1)) (yes containerAnswer _ _ _ _ _ _ (T-not-of (ne-eqb _ _ (c .before .before .before .before .before .before .before .before .before .before .before .before .before .if1 .left))) (via containerAnswer _ _ _ _ _ (b .2) (via containerAnswer _ _ _ _ _ (d .2) (padded containerAnswer _ _ _ _ (c .before .before .check-padding .ensures) (c .enum-told5 .given .1) (λ q. rw (len, b .1, d .1)))))))
 
 pub end-by-fields-spec : {M : Type 1} → statement M
 end-by-fields-spec =
@@ -139,6 +139,6 @@ end-by-fields-spec =
     check-padding-requires
     enum-told-5
     enum-told-6
-    padding-error-requires
+    field-error-requires-3
     returns-6
     returns-7)

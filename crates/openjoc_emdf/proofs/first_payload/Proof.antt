@@ -10,7 +10,8 @@ use Rattle.openjoc_bitio.specs.Cursor.{bitsRemaining}
 use Rattle.openjoc_bitio.proofs.Cursor.{remaining-inside}
 use Rattle.emdf_format.specs.Reader.{got, cursorAt, extendedValue}
 use Rattle.emdf_format.specs.Syntax.{escape}
-use Rattle.openjoc_emdf.specs.Answers.{fieldAnswer, reachedBy, firstPayload}
+use Rattle.emdf_fields.specs.Fields.{fieldAnswer}
+use Rattle.openjoc_emdf.specs.Answers.{reachedBy, firstPayload}
 use Rattle.openjoc_emdf.proofs.Words.{key-found}
 use Rattle.openjoc_emdf.proofs.first_payload.Statement.{statement}
 use Rattle.openjoc_emdf.proofs.first_payload.Tie as tie
@@ -25,7 +26,7 @@ mul-t10 : tie.Need-mul-t10
 mul-t10 c = search needs
 
 returns : tie.Need-returns
-unfolding firstPayload reachedBy fieldAnswer
+unfolding firstPayload fieldAnswer
 returns c =
     let a = c .before .before .before .before .before .args in
     let n = a .n in

@@ -1,5 +1,5 @@
 use borrow.Author.Needs.{needs}
-use Rattle.openjoc_emdf.proofs.Walk.{open-refused, open-size, open-parsed}
+use Rattle.openjoc_emdf.proofs.Opening.{open-refused, open-size, open-parsed}
 use Rattle.openjoc_emdf.proofs.open_carrier.Statement.{statement}
 use Rattle.openjoc_emdf.proofs.open_carrier.Tie as tie
 

@@ -2,8 +2,8 @@ use borrow.Author.Needs.{needs}
 use mathlib.Core.Path.{sym, _∙_}
 use Rattle.openjoc_emdf.specs.Answers.{containerAfter, containerAnswer}
 use Rattle.openjoc_emdf.specs.declared.ContainerAnswer.the-variants.{Refused}
-use Rattle.openjoc_emdf.proofs.Answers.{via}
-use Rattle.openjoc_emdf.proofs.Ends.{count-found, left, by-count, container-refuses}
+use Rattle.emdf_fields.proofs.Answers.{via, count-found, by-count}
+use Rattle.openjoc_emdf.proofs.Ends.{left, container-refuses}
 use Rattle.openjoc_emdf.proofs.parse_payloads.Statement.{statement}
 use Rattle.openjoc_emdf.proofs.parse_payloads.Tie as tie
 

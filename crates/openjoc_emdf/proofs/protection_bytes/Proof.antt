@@ -6,10 +6,11 @@ use denote.Ref.{now}
 use Rattle.openjoc_bitio.specs.Cursor.{bitsRemaining}
 use Rattle.openjoc_bitio.proofs.Cursor.{remaining-end}
 use Rattle.emdf_format.proofs.Standing.{bitLimit, remaining-limit}
-use Rattle.openjoc_emdf.specs.Answers.{bytesAnswer, cursorError}
+use Rattle.openjoc_emdf.specs.Answers.{bytesAnswer}
 use Rattle.openjoc_emdf.specs.declared.BytesAnswer.the-variants.{Refused}
-use Rattle.openjoc_emdf.proofs.Answers.{octets-ended}
-use Rattle.openjoc_emdf.proofs.Octets.{passed, bytes-are}
+use Rattle.emdf_fields.proofs.Answers.{count-ended}
+use Rattle.emdf_fields.proofs.Octets.{passed}
+use Rattle.openjoc_emdf.proofs.Octets.{bytes-are}
 use Rattle.openjoc_emdf.proofs.protection_bytes.Statement.{statement}
 use Rattle.openjoc_emdf.proofs.protection_bytes.Tie as tie
 
@@ -22,14 +23,14 @@ enum-known-a c = search needs
 enum-told : tie.Need-enum-told
 enum-told c = search needs
 
-cursor-error-requires : tie.Need-cursor-error-requires
-cursor-error-requires c κs = search needs
+count-error-requires : tie.Need-count-error-requires
+count-error-requires c κs = search needs
 
 returns : tie.Need-returns
-unfolding bytesAnswer cursorError
+unfolding bytesAnswer
 returns c =
-    let d = octets-ended _ _ (sym (c .before .before .before .skip-octets .ensures) ∙ c .before .enum-told .given .1) in
-    rw (d .1) (ap Refused (rw (c .before .enum-told .given .1) at (c .cursor-error .ensures)))
+    let d = count-ended _ _ (sym (c .before .before .before .skip-octets .ensures) ∙ c .before .enum-told .given .1) in
+    rw (d .1) (ap Refused (rw (c .before .enum-told .given .1) at (c .count-error .ensures)))
 
 above-eight-requires : tie.Need-above-eight-requires
 above-eight-requires c κs = search needs
@@ -78,7 +79,7 @@ protection-bytes-spec =
     skip-octets-requires
     enum-known-a
     enum-told
-    cursor-error-requires
+    count-error-requires
     returns
     above-eight-requires
     mul-position

@@ -1,0 +1,4 @@
+pub mod Word
+pub mod Answers
+pub mod Variable
+pub mod Octets

@@ -1,0 +1,124 @@
+-- A compact payload, read from the words that hold its head and its size, is what stands next. Assumes nothing.
+use mathlib.Core.Path.{_≡_, refl, ap, _∙_}
+use mathlib.Core.Bool.{Bool, true, false}
+use mathlib.Core.List.{List}
+use Prim.Native.Nat.{ℕ, _+_, _*_, _^_, _≤_, _<_}
+use native.Mathlib.Omega.{arith}
+use native.Mathlib.Decide.{decLe}
+use lib.Dec.{eqb, lit≤, eqb→eq}
+use Rattle.openjoc_bitio.specs.Choice.{if_then_else_}
+use Rattle.openjoc_bitio.specs.Bits.{windowAt}
+use Rattle.openjoc_bitio.proofs.Bits.{window-range}
+use Rattle.openjoc_bitio.specs.Cursor.{bitsRemaining}
+use Rattle.openjoc_bitio.specs.declared.BitCursor.{BitCursor}
+use Rattle.emdf_format.specs.Reader.{got, cursorAt, position, variableBits, extendedValue, octets}
+use Rattle.emdf_format.specs.Reading.{payloadConfig, payloadAfter, traceOf}
+use Rattle.emdf_format.specs.Calls.{octetsAt}
+use Rattle.emdf_format.proofs.Standing.{bitLimit, remaining-limit, bind-go, choose-this, choose-that, give-go, T-of, T-not-of, neqb→ne}
+use Rattle.emdf_format.proofs.Payloads.{at-go}
+use Rattle.emdf_format.proofs.Loops.{octets-there}
+use Rattle.emdf_fields.specs.Word.{top}
+use Rattle.emdf_settings.specs.Words.{compactSettings, compactConfig, configLength, headLength, sizeLength, sizeValue}
+use Rattle.emdf_fields.proofs.Word.{Word, word-window, word-after}
+use Rattle.emdf_settings.proofs.Compact.{config-found, id-found, size-found, head-end, head-of, head-most, size-most, value-most}
+use Rattle.emdf_payloads.specs.Payloads.{nextPayload, turnFound, turnAnswer, stepAt}
+use Rattle.emdf_payloads.specs.Compact.{compactLength, compactRecord, compactStep}
+use Rattle.emdf_payloads.specs.declared.PayloadStep.the-variants as PayloadStep
+
+more : (k : ℕ) → eqb k 0 ≡ false → 0 < k
+more k h = let f = neqb→ne k 0 (T-not-of h) in elim (decLe 1 k) [
+  | yes l ↦ l
+  | no l ↦ absurd (f (omega arith))
+]
+
+-- what follows an id at q: compact settings in a word, a size at z, and a body from b to t
+pub after-found : {s : List ℕ} {q m x : ℕ} → Word s q m x → m ≤ 64 → 52 ≤ m → (e p₀ id : ℕ) {z b t : ℕ} → compactSettings x ≡ true → 0 < sizeLength (windowAt s z)
+    → q + configLength x ≡ z → z + sizeLength (windowAt s z) ≡ b → b + sizeValue (windowAt s z) * 8 ≡ t → t ≤ bitLimit s e
+    → payloadAfter p₀ id s e q ≡ got (record { record-of = record { id = id; config = compactConfig x; trace = traceOf p₀ q z b t }; body = octetsAt s b (sizeValue (windowAt s z)) }) t
+unfolding payloadAfter
+after-found {s} {q} {m} {x} w h₆₄ h₅₂ e p₀ id {z} {b} {t} settings some i j k l =
+    let n = sizeValue (windowAt s z) in
+    let r : b + 8 * n ≡ t = omega arith in
+    bind-go position _ (at-go s e q)
+    (bind-go payloadConfig _ (config-found w h₆₄ h₅₂ settings e (omega arith) ∙ ap (λ (o : ℕ). got (compactConfig x) o) i)
+    (bind-go position _ (at-go s e z)
+    (bind-go (variableBits 8 2) _ (size-found (word-window s z) (lit≤ tt) e (lit≤ tt) some (omega arith) ∙ ap (λ (o : ℕ). got n o) j)
+    (bind-go position _ (at-go s e b)
+    (bind-go (octets n) _ (octets-there n s e b (omega arith) ∙ ap (λ (o : ℕ). got (octetsAt s b n) o) r)
+    (bind-go position _ (at-go s e t)
+    (give-go s e refl refl)))))))
+
+module _ (s : List ℕ) (c : BitCursor) where
+  abbrev e : ℕ
+  e = c .end
+
+  abbrev p : ℕ
+  p = c .position
+
+  abbrev x : ℕ
+  x = windowAt s p
+
+  abbrev y : ℕ
+  y = windowAt s (p + headLength x)
+
+  -- all of the payload's bits
+  abbrev n : ℕ
+  n = headLength x + sizeLength y + sizeValue y * 8
+
+  there : (k : ℕ) → 0 < k → k ≤ bitsRemaining s c → p + k ≤ bitLimit s e
+  there k h l = omega (arith, remaining-limit s e p)
+
+  pub compact-end : eqb (top 5 x) 0 ≡ true → 5 ≤ bitsRemaining s c → stepAt s c ≡ PayloadStep.End (cursorAt e (p + 5))
+  unfolding nextPayload turnAnswer turnFound
+  compact-end z l =
+      ap (turnAnswer e)
+      (bind-go position _ (at-go s e p)
+      (bind-go (extendedValue 5) _ (id-found (word-window s p) (lit≤ tt) e (lit≤ tt) (rw (eqb→eq (top 5 x) 0 (T-of z))) (there 5 (omega arith) l))
+      (choose-this _ _ _ (T-of z) (give-go s e refl refl))))
+
+  compact-found : eqb (top 5 x) 0 ≡ false → 0 < headLength x → 0 < sizeLength y → n ≤ bitsRemaining s c → stepAt s c ≡ PayloadStep.Payload (compactRecord x p (headLength x) (sizeLength y) n) (cursorAt e (p + n))
+  unfolding nextPayload turnAnswer turnFound
+  compact-found z h k l =
+      let d = head-of x z h in
+      let m : p + n ≤ bitLimit s e = there n (omega (arith, h)) l in
+      let w = word-after 5 (lit≤ tt) (lit≤ tt) (word-window s p) in
+      ap (turnAnswer e)
+      (bind-go position _ (at-go s e p)
+      (bind-go (extendedValue 5) _ (id-found (word-window s p) (lit≤ tt) e (lit≤ tt) (d .low) (omega (arith, m, d .length)))
+      (choose-that _ _ _ (T-not-of z)
+      (bind-go (payloadAfter p (top 5 x)) _ (after-found w (lit≤ tt) (lit≤ tt) e p (top 5 x) (d .compact) k (omega (arith, d .length)) refl (omega arith) m) (give-go s e refl refl)))))
+
+  -- more bits than an end mark takes
+  pub compact-step : 5 < headLength x → 0 < sizeLength y → n ≤ bitsRemaining s c → stepAt s c ≡ PayloadStep.Payload (compactRecord x p (headLength x) (sizeLength y) n) (cursorAt e (p + n))
+  compact-step h k l = by-id (eqb (top 5 x) 0) refl
+    where
+      by-id : (t : Bool) → eqb (top 5 x) 0 ≡ t → stepAt s c ≡ PayloadStep.Payload (compactRecord x p (headLength x) (sizeLength y) n) (cursorAt e (p + n))
+      by-id true z = absurd (omega (arith, head-end x z, h))
+      by-id false z = compact-found z (omega (arith, h)) k l
+
+  pub compact-there : (k : ℕ) → k ≡ compactLength s p → 0 < k → k ≤ bitsRemaining s c → stepAt s c ≡ compactStep s e p k
+  unfolding compactLength compactStep
+  compact-there k i h l = by-head (eqb (headLength x) 0) refl (eqb (top 5 x) 0) refl (eqb (sizeLength y) 0) refl
+    where
+      by-head : (t : Bool) → eqb (headLength x) 0 ≡ t → (u : Bool) → eqb (top 5 x) 0 ≡ u → (v : Bool) → eqb (sizeLength y) 0 ≡ v → stepAt s c ≡ compactStep s e p k
+      by-head true z₁ u z₂ v z₃ = absurd (let f : compactLength s p ≡ 0 = rw z₁ in omega (arith, f, i, h))
+      by-head false z₁ true z₂ v z₃ =
+          let f = head-end x z₂ in
+          let g : compactLength s p ≡ headLength x = rw (z₁, z₂) in
+          let j : k ≡ 5 = omega (arith, f, g, i) in
+          rw (z₂, j) (compact-end z₂ (omega (arith, j, l)))
+      by-head false z₁ false z₂ true z₃ = absurd (let f : compactLength s p ≡ 0 = rw (z₁, z₂, z₃) in omega (arith, f, i, h))
+      by-head false z₁ false z₂ false z₃ =
+          let g : compactLength s p ≡ n = rw (z₁, z₂, z₃) in
+          let j : k ≡ n = i ∙ g in
+          rw (z₂, j) (compact-found z₂ (more (headLength x) z₁) (more (sizeLength y) z₃) (omega (arith, j, l)))
+
+  pub length-most : compactLength s p < 2 ^ 32
+  unfolding compactLength
+  length-most = go (eqb (headLength x) 0) (eqb (top 5 x) 0) (eqb (sizeLength y) 0)
+    where
+      go : (t u v : Bool) → (if t then 0 else (if u then headLength x else (if v then 0 else n))) < 2 ^ 32
+      go true u v = omega arith
+      go false true v = omega (arith, head-most x)
+      go false false true = omega arith
+      go false false false = omega (arith, head-most x, size-most y, value-most y (window-range s (p + headLength x)))

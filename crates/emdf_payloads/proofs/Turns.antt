@@ -1,0 +1,148 @@
+-- One turn of a loop over the payloads, and what it says of all of them. Assumes nothing.
+use mathlib.Core.Path.{_≡_, refl, sym, ap, _∙_}
+use mathlib.Core.List.{List, [], _∷_}
+use Prim.Native.Nat.{ℕ, suc, _+_, _-_, _≤_, _<_}
+use native.Mathlib.Omega.{arith}
+use native.Mathlib.Nat.{add-zero}
+use lib.ListN.{length}
+use Rattle.openjoc_bitio.specs.Cursor.{bitsRemaining}
+use Rattle.openjoc_bitio.specs.declared.BitCursor.{BitCursor}
+use Rattle.emdf_format.specs.Reader.{Read, got, refused, Reader, andThen, _>>=_, give, cursorAt}
+use Rattle.emdf_format.specs.Reading.{Found as Payload, payloads}
+use Rattle.emdf_format.specs.declared.EmdfError.{EmdfError}
+use Rattle.emdf_format.specs.declared.PayloadRecord.{PayloadRecord}
+use Rattle.emdf_format.proofs.Standing.{bitLimit, remaining-limit, taken, chosen, bind-inv, bind-go, bind-no, bind-assoc, bind-same, choose-inv, choose-bind, choose-same, give-inv, give-bind, stands-in}
+use Rattle.emdf_format.proofs.Payloads.{at-inv, id-law}
+use Rattle.emdf_format.proofs.Lengths.{length-extended}
+use Rattle.emdf_format.proofs.Loops.{payloads-enough, after-moves, id-moves}
+use Rattle.emdf_fields.specs.Fields.{countAnswer}
+use Rattle.emdf_payloads.specs.Payloads.{Turn, ended, found, nextPayload, turnFound, turnAnswer}
+use Rattle.emdf_payloads.specs.declared.PayloadStep.the-variants as PayloadStep
+use Rattle.emdf_fields.specs.declared.CountAnswer.{CountAnswer}
+use Rattle.emdf_fields.specs.declared.CountAnswer.the-variants as CountAnswer
+use Rattle.emdf_fields.proofs.Answers.{Found}
+
+-- ---- what a turn's answer says
+
+ended-is : {e : ℕ} (y : Read Turn) {c : BitCursor} → turnAnswer e y ≡ PayloadStep.End c → Found y e ended c
+unfolding turnAnswer turnFound
+ended-is {e} (got ended q) {c} h = let b : cursorAt e q ≡ c = cc in record { is = rw (← b); end = rw (← b) }
+ended-is (got (found x) q) h = absurd (let w : _≡_ {A = ℕ} 0 1 = cc in omega arith)
+ended-is (refused why q) h = absurd (let w : _≡_ {A = ℕ} 0 1 = cc in omega arith)
+
+found-is : (e : ℕ) (y : Read Turn) {r : PayloadRecord} {c : BitCursor} → turnAnswer e y ≡ PayloadStep.Payload r c → (x : Payload) × (x .record-of ≡ r) × Found y e (found x) c
+unfolding turnAnswer turnFound
+found-is e (got ended q) h = absurd (let w : _≡_ {A = ℕ} 0 1 = cc in omega arith)
+found-is e (got (found x) q) {r} {c} h =
+    let a : x .record-of ≡ r = cc in
+    let b : cursorAt e q ≡ c = cc in
+    (x, a, record { is = rw (← b); end = rw (← b) })
+found-is e (refused why q) h = absurd (let w : _≡_ {A = ℕ} 0 1 = cc in omega arith)
+
+refused-is : (e : ℕ) (y : Read Turn) {why : EmdfError} → turnAnswer e y ≡ PayloadStep.Refused why → (q : ℕ) × (y ≡ refused why q)
+unfolding turnAnswer turnFound
+refused-is e (got ended q) h = absurd (let w : _≡_ {A = ℕ} 0 1 = cc in omega arith)
+refused-is e (got (found x) q) h = absurd (let w : _≡_ {A = ℕ} 0 1 = cc in omega arith)
+refused-is e (refused why′ q) {why} h = let a : why′ ≡ why = cc in (q, rw a)
+
+-- a payload takes bits, and they are there
+pub moves : (s : List ℕ) (e p q : ℕ) (x : Payload) → nextPayload s e p ≡ got (found x) q → (p < q) × (p < bitLimit s e)
+unfolding nextPayload
+moves s e p q x h =
+    taken (bind-inv h) λ p₀ q₀ h₀ t₀.
+    let z = at-inv h₀ in
+    taken (bind-inv t₀) λ id p₁ h₁ t₁.
+    chosen (choose-inv t₁)
+    (λ y t₂. let d = give-inv t₂ in absurd (let w : _≡_ {A = ℕ} 0 1 = cc (d .what) in omega arith))
+    λ y t₂.
+    taken (bind-inv t₂) λ x′ p₂ h₂ t₃.
+    let d = give-inv t₃ in
+    let a : q₀ < p₁ = id-moves s e h₁ in
+    let b : p₁ < p₂ = after-moves p₀ id s e h₂ in
+    let l : p₁ ≤ bitLimit s e = stands-in (id-law .sound h₁ .0) (omega (arith, length-extended 5 id)) in
+    (omega (arith, z .to, d .to), omega (arith, z .to))
+
+-- ---- the list is a turn, and then what it says
+
+unfoldable pub rest : ℕ → Turn → Reader (List Payload)
+rest n ended = give []
+rest n (found x) = payloads n >>= λ xs. give (x ∷ xs)
+
+pub payloads-turn : (n : ℕ) (s : List ℕ) (e p : ℕ) → payloads (suc n) s e p ≡ (nextPayload >>= rest n) s e p
+unfolding payloads nextPayload rest
+payloads-turn n s e p =
+    sym (bind-assoc _ _ (rest n) s e p
+    ∙ bind-same _ _ _ s e p (λ p₀ q.
+    bind-assoc _ _ (rest n) s e q
+    ∙ bind-same _ _ _ s e q (λ id q.
+    choose-bind _ _ _ (rest n) s e q
+    ∙ choose-same _ _ _ _ _ s e q (give-bind ended (rest n) s e q) (
+    bind-assoc _ _ (rest n) s e q
+    ∙ bind-same _ _ _ s e q (λ x q. give-bind (found x) (rest n) s e q)))))
+
+-- how many payloads there are, k of them counted already
+unfoldable pub countFrom : ℕ → ℕ → Read (List Payload) → CountAnswer
+countFrom k e (got xs q) = CountAnswer.Counted (k + length xs) (cursorAt e q)
+countFrom k e (refused why q) = CountAnswer.Refused why
+
+pub count-all : (e : ℕ) (y : Read (List Payload)) → countFrom 0 e y ≡ countAnswer e y
+unfolding countFrom countAnswer
+count-all e (got xs q) = let z : 0 + length xs ≡ length xs = omega arith in rw z
+count-all e (refused why q) = refl
+
+counted-more : (k e : ℕ) (x : Payload) (y : Read (List Payload)) → countFrom (k + 1) e y ≡ countFrom k e (andThen y (λ xs q. got (x ∷ xs) q))
+unfolding countFrom andThen
+counted-more k e x (got xs q) = let z : k + 1 + length xs ≡ k + suc (length xs) = omega arith in rw z
+counted-more k e x (refused why q) = refl
+
+counted-rest : (k : ℕ) (s : List ℕ) (n m e : ℕ) (c : BitCursor) (x : Payload) → c .end ≡ e → bitLimit s (c .end) - c .position ≤ n → bitLimit s e - c .position ≤ m
+    → countFrom (k + 1) (c .end) (payloads n s (c .end) (c .position)) ≡ countFrom k e (rest m (found x) s e (c .position))
+unfolding rest _>>=_ give
+counted-rest k s n m e c x h a b =
+    let a′ : bitLimit s e - c .position ≤ n = rw h at a in
+    rw (h, payloads-enough n m s e (c .position) a′ b) (counted-more k e x (payloads m s e (c .position)))
+
+module _ (k : ℕ) (s : List ℕ) (at : BitCursor) where
+  abbrev e : ℕ
+  e = at .end
+
+  abbrev p : ℕ
+  p = at .position
+
+  -- all that is left to count
+  abbrev pub left : CountAnswer
+  left = countFrom k e (payloads (bitsRemaining s at) s e p)
+
+  enough : payloads (bitsRemaining s at) s e p ≡ (nextPayload >>= rest (bitsRemaining s at)) s e p
+  enough =
+      let l : bitLimit s e - p ≤ bitsRemaining s at = omega (arith, remaining-limit s e p) in
+      payloads-enough (bitsRemaining s at) (suc (bitsRemaining s at)) s e p l (omega arith) ∙ payloads-turn (bitsRemaining s at) s e p
+
+  pub at-end : {c : BitCursor} → turnAnswer e (nextPayload s e p) ≡ PayloadStep.End c → CountAnswer.Counted k c ≡ left
+  unfolding countFrom rest give
+  at-end h =
+      let d = ended-is (nextPayload s e p) h in
+      rw (enough, bind-go nextPayload (rest (bitsRemaining s at)) (d .is) refl, add-zero, ← d .end)
+
+  pub at-refused : {why : EmdfError} → turnAnswer e (nextPayload s e p) ≡ PayloadStep.Refused why → CountAnswer.Refused why ≡ left
+  unfolding countFrom
+  at-refused h = let d = refused-is e (nextPayload s e p) h in rw (enough, bind-no nextPayload (rest (bitsRemaining s at)) (d .1))
+
+  pub record More (c : BitCursor) : Type 0 where
+    pub left : countFrom (k + 1) (c .end) (payloads (bitsRemaining s c) s (c .end) (c .position)) ≡ left
+    pub moves : p < c .position
+    pub less : bitsRemaining s c < bitsRemaining s at
+
+  pub at-payload : {r : PayloadRecord} {c : BitCursor} → turnAnswer e (nextPayload s e p) ≡ PayloadStep.Payload r c → More c
+  unfolding rest
+  at-payload {r} {c} h =
+      let (x, i, d) = found-is e (nextPayload s e p) h in
+      let m = moves s e p (c .position) x (d .is) in
+      let a : bitsRemaining s at ≡ bitLimit s e - p = remaining-limit s e p in
+      let b : bitsRemaining s c ≡ bitLimit s (c .end) - c .position = remaining-limit s (c .end) (c .position) in
+      let b′ : bitsRemaining s c ≡ bitLimit s e - c .position = b ∙ ap (λ (x : ℕ). bitLimit s x - c .position) (d .end) in
+      record {
+        left = rw (enough, bind-go nextPayload (rest (bitsRemaining s at)) (d .is) refl) (counted-rest k s (bitsRemaining s c) (bitsRemaining s at) e c x (d .end) (omega (arith, b)) (omega (arith, b′, a, m)));
+        moves = m .0;
+        less = omega (arith, m);
+      }

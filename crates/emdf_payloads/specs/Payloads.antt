@@ -1,0 +1,51 @@
+-- The answers of payloads, by what emdf_format's readers find: e is the end of the cursor that was handed in. Assumes nothing.
+use mathlib.Core.List.{List}
+use mathlib.Core.Path.{_≡_}
+use Prim.Native.Nat.{ℕ, _-_}
+use lib.Dec.{eqb}
+use Rattle.openjoc_bitio.specs.declared.BitCursor.{BitCursor}
+use Rattle.emdf_format.specs.Reader.{Read, got, refused, Reader, _>>=_, give, choose, cursorAt, position, extendedValue}
+use Rattle.emdf_format.specs.Reading.{Found, payloadAfter, payloads}
+use Rattle.emdf_payloads.specs.declared.PayloadStep.{PayloadStep}
+use Rattle.emdf_payloads.specs.declared.PayloadStep.the-variants as PayloadStep
+use Rattle.emdf_payloads.specs.declared.SkipStep.{SkipStep}
+use Rattle.emdf_payloads.specs.declared.SkipStep.the-variants as SkipStep
+
+unfoldable pub payloadAnswer : ℕ → Read Found → PayloadStep
+payloadAnswer e (got x q) = PayloadStep.Payload (x .record-of) (cursorAt e q)
+payloadAnswer e (refused why q) = PayloadStep.Refused why
+
+-- what stands next in the list of payloads: one turn of emdf_format's payloads
+pub data Turn : Type 0 where
+  ended : Turn
+  found : Found → Turn
+
+unfoldable pub nextPayload : Reader Turn
+nextPayload = do
+  p₀ ← position
+  id ← extendedValue 5
+  choose (eqb id 0) (give ended) (do x ← payloadAfter p₀ id; give (found x))
+
+unfoldable pub turnFound : Turn → ℕ → ℕ → PayloadStep
+turnFound ended e q = PayloadStep.End (cursorAt e q)
+turnFound (found x) e q = PayloadStep.Payload (x .record-of) (cursorAt e q)
+
+unfoldable pub turnAnswer : ℕ → Read Turn → PayloadStep
+turnAnswer e (got t q) = turnFound t e q
+turnAnswer e (refused why q) = PayloadStep.Refused why
+
+-- what stands at a cursor
+abbrev pub stepAt : List ℕ → BitCursor → PayloadStep
+stepAt s c = turnAnswer (c .end) (nextPayload s (c .end) (c .position))
+
+-- the same, of a payload only its id
+unfoldable pub skipOf : PayloadStep → SkipStep
+skipOf (PayloadStep.Payload r c) = SkipStep.Past (r .id) c
+skipOf (PayloadStep.End c) = SkipStep.End c
+skipOf (PayloadStep.Refused why) = SkipStep.Refused why
+
+-- from the cursor c on, the payloads xs and then the end of the list
+pub record Listed (s : List ℕ) (c : BitCursor) (xs : List Found) : Type 0 where
+  pub bound : ℕ
+  pub to : ℕ
+  pub is : payloads bound s (c .end) (c .position) ≡ got xs to

@@ -1,0 +1,268 @@
+// Payloads one after another. Each function answers what its definition in emdf_format says; a compact payload is read from words.
+ghost use mathlib.Core.Path.{_≡_};
+ghost use mathlib.Core.Bool.{true};
+ghost use Prim.Native.Nat.{_+_, _^_, _<_};
+ghost use Rattle.emdf_format.specs.Reading.{traceOf, payloadAfter, payloads};
+ghost use Rattle.openjoc_bitio.specs.Bits.{windowAt};
+ghost use Rattle.emdf_settings.specs.Words.{compactSettings, configLength};
+ghost use Rattle.openjoc_bitio.specs.Cursor.{bitsRemaining};
+ghost use Rattle.emdf_fields.specs.Fields.{countAnswer};
+ghost use Rattle.emdf_payloads.specs.Compact.{compactLength, compactStep, recordAt};
+ghost use Rattle.emdf_payloads.specs.Payloads.{payloadAnswer, turnAnswer, nextPayload, skipOf};
+use emdf_fields::CountAnswer;
+use emdf_fields::FieldAnswer;
+use emdf_format::EmdfError;
+use emdf_format::EmdfPayloadBitTrace;
+use emdf_format::MAX_SIZE_GROUPS;
+use emdf_format::PayloadRecord;
+use emdf_settings::ConfigAnswer;
+use openjoc_bitio::BitCursor;
+use openjoc_bitio::BitOffset;
+
+// What stands next in the list of payloads: a payload, or the id 0 that ends it.
+pub enum PayloadStep {
+    Payload(PayloadRecord, BitCursor),
+    End(BitCursor),
+    Refused(EmdfError),
+}
+
+// The same, of a payload only its id.
+pub enum SkipStep {
+    Past(u64, BitCursor),
+    End(BitCursor),
+    Refused(EmdfError),
+}
+
+// A payload after its id, which starts at bit start: its settings, its size, and past its body.
+fn payload_after(s: &[u8], c: BitCursor, start: usize, id: u64) -> PayloadStep
+    ensures { λ r. ⌜ r ≡ payloadAnswer (c .end) (payloadAfter start id (now (s .entry)) (c .end) (c .position)) ⌝ }
+{
+    let position = c.position;
+    let end = c.end;
+    // So that no sum of positions is too large.
+    if position < 0x2000_0000_0000_0000 {
+        let x = openjoc_bitio::window_at(s, position);
+        let config = emdf_settings::config_length(x) as usize;
+        if config != 64 {
+            return after_compact(s, x, config, position, end, start, id);
+        }
+    }
+    after_by_fields(s, BitCursor { position, end }, start, id)
+}
+
+// The same where x is the word at the position, with compact settings of so many bits.
+fn after_compact(
+    s: &[u8],
+    x: u64,
+    config: usize,
+    position: usize,
+    end: usize,
+    start: usize,
+    id: u64,
+) -> PayloadStep
+    requires { ⌜ (position < 2 ^ 61) × (x ≡ windowAt (now s) position) × (compactSettings x ≡ true) × (config ≡ configLength x) ⌝ }
+    ensures { λ r. ⌜ r ≡ payloadAnswer end (payloadAfter start id (now (s .entry)) end position) ⌝ }
+{
+    let size = position + config;
+    let y = openjoc_bitio::window_at(s, size);
+    let length = emdf_settings::size_length(y) as usize;
+    if length != 0 {
+        let body = size + length;
+        let past = body + (emdf_settings::size_value(y) as usize) * 8;
+        if past - position <= (BitCursor { position, end }).bits_remaining(s) {
+            let config = emdf_settings::compact_config(x);
+            let trace = bit_trace(start, position, size, body, past);
+            let next = BitCursor {
+                position: past,
+                end,
+            };
+            return PayloadStep::Payload(PayloadRecord { id, config, trace }, next);
+        }
+    }
+    after_by_fields(s, BitCursor { position, end }, start, id)
+}
+
+// The same field by field.
+fn after_by_fields(s: &[u8], c: BitCursor, start: usize, id: u64) -> PayloadStep
+    ensures { λ r. ⌜ r ≡ payloadAnswer (c .end) (payloadAfter start id (now (s .entry)) (c .end) (c .position)) ⌝ }
+{
+    let a1 = emdf_settings::payload_config(s, c);
+    let ConfigAnswer::Config(config, c1) = a1 else {
+        return PayloadStep::Refused(emdf_settings::config_error(a1));
+    };
+    let a2 = emdf_fields::variable_bits(s, c1, 8, MAX_SIZE_GROUPS);
+    let FieldAnswer::Value(size, c2) = a2 else {
+        return PayloadStep::Refused(emdf_fields::field_error(a2));
+    };
+    let a3 = emdf_fields::skip_octets(s, c2, size);
+    let CountAnswer::Counted(_, c3) = a3 else {
+        return PayloadStep::Refused(emdf_fields::count_error(a3));
+    };
+    let trace = bit_trace(start, c.position, c1.position, c2.position, c3.position);
+    PayloadStep::Payload(PayloadRecord { id, config, trace }, c3)
+}
+
+// The parts of a payload adjoin: each ends where the next one starts.
+pub fn bit_trace(
+    id: usize,
+    config: usize,
+    size: usize,
+    body: usize,
+    end: usize,
+) -> EmdfPayloadBitTrace
+    ensures { λ r. ⌜ r ≡ traceOf id config size body end ⌝ }
+{
+    EmdfPayloadBitTrace {
+        payload_id_start_bit: BitOffset(id),
+        payload_id_end_bit: BitOffset(config),
+        config_start_bit: BitOffset(config),
+        config_end_bit: BitOffset(size),
+        payload_size_start_bit: BitOffset(size),
+        payload_size_end_bit: BitOffset(body),
+        payload_body_start_bit: BitOffset(body),
+        payload_body_end_bit: BitOffset(end),
+    }
+}
+
+// The next payload, or the end of the list.
+pub fn next_payload(s: &[u8], c: BitCursor) -> PayloadStep
+    ensures { λ r. ⌜ r ≡ turnAnswer (c .end) (nextPayload (now (s .entry)) (c .end) (c .position)) ⌝ }
+{
+    let position = c.position;
+    let end = c.end;
+    let n = compact_there(s, position, end);
+    if n == 0 {
+        return payload_by_fields(s, BitCursor { position, end });
+    }
+    let next = BitCursor {
+        position: position + n,
+        end,
+    };
+    if openjoc_bitio::window_at(s, position) >> 59 == 0 {
+        return PayloadStep::End(next);
+    }
+    PayloadStep::Payload(compact_record(s, position, n), next)
+}
+
+// Past the next payload, for a caller who wants no record of it.
+pub fn skip_payload(s: &[u8], c: BitCursor) -> SkipStep
+    ensures { λ r. ⌜ r ≡ skipOf (turnAnswer (c .end) (nextPayload (now (s .entry)) (c .end) (c .position))) ⌝ }
+{
+    let position = c.position;
+    let end = c.end;
+    let n = compact_there(s, position, end);
+    if n == 0 {
+        return skipped(payload_by_fields(s, BitCursor { position, end }));
+    }
+    let next = BitCursor {
+        position: position + n,
+        end,
+    };
+    let id = openjoc_bitio::window_at(s, position) >> 59;
+    if id == 0 {
+        return SkipStep::End(next);
+    }
+    SkipStep::Past(id, next)
+}
+
+// How many bits the end mark or a compact payload takes that stands at a position, all of it before the end. 0 where
+// something else stands there.
+fn compact_there(s: &[u8], position: usize, end: usize) -> usize
+    ensures { λ r. ⌜ (0 < r → turnAnswer end (nextPayload (now (s .entry)) end position) ≡ compactStep (now (s .entry)) end position r) × (0 < r → position < 2 ^ 61) × (position + r < 2 ^ 64) ⌝ }
+{
+    // So that no sum of positions is too large.
+    if 0x2000_0000_0000_0000 <= position {
+        return 0;
+    }
+    let n = compact_length(s, position);
+    let c = BitCursor { position, end };
+    if c.bits_remaining(s) < n {
+        return 0;
+    }
+    n
+}
+
+// The same wherever the end is.
+fn compact_length(s: &[u8], position: usize) -> usize
+    requires { ⌜ position < 2 ^ 61 ⌝ }
+    ensures { λ r. ⌜ r ≡ compactLength (now (s .entry)) position ⌝ }
+{
+    let x = openjoc_bitio::window_at(s, position);
+    let head = emdf_settings::head_length(x) as usize;
+    if head == 0 {
+        return 0;
+    }
+    if x >> 59 == 0 {
+        return head;
+    }
+    let y = openjoc_bitio::window_at(s, position + head);
+    let size = emdf_settings::size_length(y) as usize;
+    if size == 0 {
+        return 0;
+    }
+    head + size + (emdf_settings::size_value(y) as usize) * 8
+}
+
+// What is recorded of a compact payload of n bits.
+fn compact_record(s: &[u8], position: usize, n: usize) -> PayloadRecord
+    requires { ⌜ (position < 2 ^ 61) × (position + n < 2 ^ 64) ⌝ }
+    ensures { λ r. ⌜ r ≡ recordAt (now (s .entry)) position n ⌝ }
+{
+    let x = openjoc_bitio::window_at(s, position);
+    let size = position + emdf_settings::head_length(x) as usize;
+    let y = openjoc_bitio::window_at(s, size);
+    let body = size + emdf_settings::size_length(y) as usize;
+    PayloadRecord {
+        id: x >> 59,
+        config: emdf_settings::compact_config(x << 5),
+        trace: bit_trace(position, position + 5, size, body, position + n),
+    }
+}
+
+// The next payload, or the end of the list, field by field.
+fn payload_by_fields(s: &[u8], c: BitCursor) -> PayloadStep
+    ensures { λ r. ⌜ r ≡ turnAnswer (c .end) (nextPayload (now (s .entry)) (c .end) (c .position)) ⌝ }
+{
+    let start = c.position;
+    let a = emdf_fields::extended_value(s, c, 31, 5);
+    let FieldAnswer::Value(id, c1) = a else {
+        return PayloadStep::Refused(emdf_fields::field_error(a));
+    };
+    if id == 0 {
+        return PayloadStep::End(c1);
+    }
+    payload_after(s, c1, start, id)
+}
+
+fn skipped(step: PayloadStep) -> SkipStep
+    ensures { λ r. ⌜ r ≡ skipOf step ⌝ }
+{
+    match step {
+        PayloadStep::Payload(record, next) => SkipStep::Past(record.id, next),
+        PayloadStep::End(next) => SkipStep::End(next),
+        PayloadStep::Refused(why) => SkipStep::Refused(why),
+    }
+}
+
+// Reads all payloads, to the end of the list.
+pub fn count_payloads(s: &[u8], c: BitCursor) -> CountAnswer
+    ensures { λ r. ⌜ r ≡ countAnswer (c .end) (payloads (bitsRemaining (now (s .entry)) c) (now (s .entry)) (c .end) (c .position)) ⌝ }
+{
+    let mut count: usize = 0;
+    let mut at = c;
+    loop {
+        let step = skip_payload(s, at);
+        match step {
+            SkipStep::Past(_, next) => {
+                count += 1;
+                at = next;
+            }
+            SkipStep::End(next) => {
+                return CountAnswer::Counted(count, next);
+            }
+            SkipStep::Refused(why) => {
+                return CountAnswer::Refused(why);
+            }
+        }
+    }
+}
