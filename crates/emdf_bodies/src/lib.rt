@@ -10,11 +10,11 @@ ghost use Rattle.emdf_bodies.specs.Bodies.{bodyOf, findBody};
 use emdf_format::BodyAnswer;
 use emdf_format::BodyError;
 use emdf_format::EmdfPayloadBitTrace;
+use emdf_payloads::PayloadStep;
+use emdf_payloads::next_payload;
 use openjoc_bitio::BitCursor;
 use openjoc_bitio::ByteCount;
 use openjoc_emdf::OpenAnswer;
-use emdf_payloads::PayloadStep;
-use emdf_payloads::next_payload;
 use openjoc_emdf::open_carrier;
 
 // Moves a body that doesn't start on a byte to the first bytes of scratch, and answers where it is and how long.

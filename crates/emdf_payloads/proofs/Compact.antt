@@ -18,9 +18,9 @@ use Rattle.emdf_format.proofs.Standing.{bitLimit, remaining-limit, bind-go, cho
 use Rattle.emdf_format.proofs.Payloads.{at-go}
 use Rattle.emdf_format.proofs.Loops.{octets-there}
 use Rattle.emdf_fields.specs.Word.{top}
-use Rattle.emdf_settings.specs.Words.{compactSettings, compactConfig, configLength, headLength, sizeLength, sizeValue}
+use Rattle.emdf_compact.specs.Words.{compactSettings, compactConfig, configLength, headLength, sizeLength, sizeValue}
 use Rattle.emdf_fields.proofs.Word.{Word, word-window, word-after}
-use Rattle.emdf_settings.proofs.Compact.{config-found, id-found, size-found, head-end, head-of, head-most, size-most, value-most}
+use Rattle.emdf_compact.proofs.Compact.{config-found, id-found, size-found, head-end, head-of, head-most, size-most, value-most}
 use Rattle.emdf_payloads.specs.Payloads.{nextPayload, turnFound, turnAnswer, stepAt}
 use Rattle.emdf_payloads.specs.Compact.{compactLength, compactRecord, compactStep}
 use Rattle.emdf_payloads.specs.declared.PayloadStep.the-variants as PayloadStep

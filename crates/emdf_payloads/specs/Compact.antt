@@ -8,7 +8,7 @@ use Rattle.emdf_format.specs.Reader.{cursorAt}
 use Rattle.emdf_format.specs.Reading.{traceOf}
 use Rattle.emdf_format.specs.declared.PayloadRecord.{PayloadRecord}
 use Rattle.emdf_fields.specs.Word.{top, after}
-use Rattle.emdf_settings.specs.Words.{compactConfig, headLength, sizeLength, sizeValue}
+use Rattle.emdf_compact.specs.Words.{compactConfig, headLength, sizeLength, sizeValue}
 use Rattle.emdf_payloads.specs.declared.PayloadStep.{PayloadStep}
 use Rattle.emdf_payloads.specs.declared.PayloadStep.the-variants as PayloadStep
 

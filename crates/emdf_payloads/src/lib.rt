@@ -4,7 +4,7 @@ ghost use mathlib.Core.Bool.{true};
 ghost use Prim.Native.Nat.{_+_, _^_, _<_};
 ghost use Rattle.emdf_format.specs.Reading.{traceOf, payloadAfter, payloads};
 ghost use Rattle.openjoc_bitio.specs.Bits.{windowAt};
-ghost use Rattle.emdf_settings.specs.Words.{compactSettings, configLength};
+ghost use Rattle.emdf_compact.specs.Words.{compactSettings, configLength};
 ghost use Rattle.openjoc_bitio.specs.Cursor.{bitsRemaining};
 ghost use Rattle.emdf_fields.specs.Fields.{countAnswer};
 ghost use Rattle.emdf_payloads.specs.Compact.{compactLength, compactStep, recordAt};
@@ -42,7 +42,7 @@ fn payload_after(s: &[u8], c: BitCursor, start: usize, id: u64) -> PayloadStep
     // So that no sum of positions is too large.
     if position < 0x2000_0000_0000_0000 {
         let x = openjoc_bitio::window_at(s, position);
-        let config = emdf_settings::config_length(x) as usize;
+        let config = emdf_compact::config_length(x) as usize;
         if config != 64 {
             return after_compact(s, x, config, position, end, start, id);
         }
@@ -65,12 +65,12 @@ fn after_compact(
 {
     let size = position + config;
     let y = openjoc_bitio::window_at(s, size);
-    let length = emdf_settings::size_length(y) as usize;
+    let length = emdf_compact::size_length(y) as usize;
     if length != 0 {
         let body = size + length;
-        let past = body + (emdf_settings::size_value(y) as usize) * 8;
+        let past = body + (emdf_compact::size_value(y) as usize) * 8;
         if past - position <= (BitCursor { position, end }).bits_remaining(s) {
-            let config = emdf_settings::compact_config(x);
+            let config = emdf_compact::compact_config(x);
             let trace = bit_trace(start, position, size, body, past);
             let next = BitCursor {
                 position: past,
@@ -188,7 +188,7 @@ fn compact_length(s: &[u8], position: usize) -> usize
     ensures { λ r. ⌜ r ≡ compactLength (now (s .entry)) position ⌝ }
 {
     let x = openjoc_bitio::window_at(s, position);
-    let head = emdf_settings::head_length(x) as usize;
+    let head = emdf_compact::head_length(x) as usize;
     if head == 0 {
         return 0;
     }
@@ -196,11 +196,11 @@ fn compact_length(s: &[u8], position: usize) -> usize
         return head;
     }
     let y = openjoc_bitio::window_at(s, position + head);
-    let size = emdf_settings::size_length(y) as usize;
+    let size = emdf_compact::size_length(y) as usize;
     if size == 0 {
         return 0;
     }
-    head + size + (emdf_settings::size_value(y) as usize) * 8
+    head + size + (emdf_compact::size_value(y) as usize) * 8
 }
 
 // What is recorded of a compact payload of n bits.
@@ -209,12 +209,12 @@ fn compact_record(s: &[u8], position: usize, n: usize) -> PayloadRecord
     ensures { λ r. ⌜ r ≡ recordAt (now (s .entry)) position n ⌝ }
 {
     let x = openjoc_bitio::window_at(s, position);
-    let size = position + emdf_settings::head_length(x) as usize;
+    let size = position + emdf_compact::head_length(x) as usize;
     let y = openjoc_bitio::window_at(s, size);
-    let body = size + emdf_settings::size_length(y) as usize;
+    let body = size + emdf_compact::size_length(y) as usize;
     PayloadRecord {
         id: x >> 59,
-        config: emdf_settings::compact_config(x << 5),
+        config: emdf_compact::compact_config(x << 5),
         trace: bit_trace(position, position + 5, size, body, position + n),
     }
 }

@@ -18,7 +18,7 @@ use Rattle.emdf_format.specs.declared.Optional.{Optional}
 use Rattle.emdf_format.specs.declared.Optional.the-variants.{Absent, Present}
 use Rattle.emdf_format.specs.declared.EmdfPayloadConfig.{EmdfPayloadConfig}
 use Rattle.emdf_format.specs.declared.PayloadRecord.{PayloadRecord}
-use Rattle.emdf_settings.specs.Words.{headLength, sizeLength, sizeValue}
+use Rattle.emdf_compact.specs.Words.{headLength, sizeLength, sizeValue}
 use Rattle.emdf_payloads.specs.declared.PayloadStep.{PayloadStep}
 use Rattle.emdf_payloads.specs.declared.PayloadStep.the-variants as PayloadStep
 use Rattle.emdf_payloads.specs.Payloads.{Listed, stepAt}

@@ -20,8 +20,8 @@ use emdf_answers::Figures;
 use emdf_format::BodyAnswer;
 use emdf_format::EditAnswer;
 use emdf_format::PayloadRecord;
-use openjoc_bitio::BitCursor;
 use emdf_payloads::PayloadStep;
+use openjoc_bitio::BitCursor;
 
 // A payload's row: 27 numbers.
 pub const ROW_BYTES: usize = 216;
@@ -79,16 +79,16 @@ fn put_next(table: &mut [u8], row: usize, s: &[u8], c: BitCursor) -> BitCursor
         return put_found(table, row, s, BitCursor { position: p, end });
     }
     let x = openjoc_bitio::window_at(s, p);
-    let head = emdf_settings::head_length(x) as usize;
+    let head = emdf_compact::head_length(x) as usize;
     if head <= 5 {
         return put_found(table, row, s, BitCursor { position: p, end });
     }
     let y = openjoc_bitio::window_at(s, p + head);
-    let size = emdf_settings::size_length(y) as usize;
+    let size = emdf_compact::size_length(y) as usize;
     if size == 0 {
         return put_found(table, row, s, BitCursor { position: p, end });
     }
-    let n = head + size + (emdf_settings::size_value(y) as usize) * 8;
+    let n = head + size + (emdf_compact::size_value(y) as usize) * 8;
     if (BitCursor { position: p, end }).bits_remaining(s) < n {
         return put_found(table, row, s, BitCursor { position: p, end });
     }
@@ -104,7 +104,7 @@ fn put_compact(table: &mut [u8], row: usize, x: u64, p: usize, head: usize, size
     requires { ⌜ (row + 216 ≤ length (now table)) × (5 ≤ head) × (head + size ≤ n) × (p + n < 2 ^ 64) ⌝ }
     ensures { λ _. ⌜ now (table .exit) ≡ sets (now (table .entry)) row (words (recordWords (compactRecord x p head size n))) ⌝ }
 {
-    let config = emdf_settings::compact_config(x << 5);
+    let config = emdf_compact::compact_config(x << 5);
     let trace = emdf_payloads::bit_trace(p, p + 5, p + head, p + head + size, p + n);
     put_record(
         table,

@@ -7,9 +7,9 @@ use denote.Ref.{now}
 use Rattle.openjoc_bitio.specs.Bits.{windowAt}
 use Rattle.openjoc_bitio.proofs.Bits.{window-range}
 use Rattle.emdf_format.proofs.Standing.{bitLimit, remaining-limit}
-use Rattle.emdf_settings.specs.Words.{sizeLength, sizeValue}
+use Rattle.emdf_compact.specs.Words.{sizeLength, sizeValue}
 use Rattle.emdf_fields.proofs.Word.{Word, word-window}
-use Rattle.emdf_settings.proofs.Compact.{config-most, size-most, value-most}
+use Rattle.emdf_compact.proofs.Compact.{config-most, size-most, value-most}
 use Rattle.emdf_payloads.specs.Payloads.{payloadAnswer}
 use Rattle.emdf_payloads.proofs.Compact.{after-found}
 use Rattle.emdf_payloads.proofs.after_compact.Statement.{statement}

@@ -6,8 +6,8 @@ use native.Mathlib.Omega.{arith}
 use denote.Ref.{now}
 use Rattle.openjoc_bitio.specs.Bits.{windowAt}
 use Rattle.openjoc_bitio.proofs.Bits.{window-range}
-use Rattle.emdf_settings.specs.Words.{headLength, sizeLength, sizeValue}
-use Rattle.emdf_settings.proofs.Compact.{head-most, size-most, value-most}
+use Rattle.emdf_compact.specs.Words.{headLength, sizeLength, sizeValue}
+use Rattle.emdf_compact.proofs.Compact.{head-most, size-most, value-most}
 use Rattle.emdf_payloads.specs.Compact.{compactLength, headAt, sizeAt}
 use Rattle.emdf_payloads.proofs.compact_length.Statement.{statement}
 use Rattle.emdf_payloads.proofs.compact_length.Tie as tie

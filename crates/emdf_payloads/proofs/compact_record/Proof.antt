@@ -1,6 +1,6 @@
 use borrow.Author.Needs.{needs}
 use native.Mathlib.Omega.{arith}
-use Rattle.emdf_settings.proofs.Compact.{head-most, size-most}
+use Rattle.emdf_compact.proofs.Compact.{head-most, size-most}
 use Rattle.emdf_payloads.proofs.compact_record.Statement.{statement}
 use Rattle.emdf_payloads.proofs.compact_record.Tie as tie
 

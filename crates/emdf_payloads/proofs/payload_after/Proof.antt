@@ -1,7 +1,7 @@
 use borrow.Author.Needs.{needs}
 use mathlib.Core.Path.{_∙_}
 use native.Mathlib.Omega.{arith}
-use Rattle.emdf_settings.proofs.Compact.{compact-unless}
+use Rattle.emdf_compact.proofs.Compact.{compact-unless}
 use Rattle.emdf_payloads.proofs.payload_after.Statement.{statement}
 use Rattle.emdf_payloads.proofs.payload_after.Tie as tie
 

@@ -1,7 +1,7 @@
 use borrow.Author.Needs.{needs}
 use Prim.Native.Nat.{_^_, _≤_, _<_}
 use native.Mathlib.Omega.{arith}
-use Rattle.emdf_settings.proofs.Compact.{head-most, size-most, value-most}
+use Rattle.emdf_compact.proofs.Compact.{head-most, size-most, value-most}
 use Rattle.emdf_rows.proofs.Rows.{same-payload, compact-found}
 use Rattle.emdf_rows.proofs.put_next.Statement.{statement}
 use Rattle.emdf_rows.proofs.put_next.Tie as tie
