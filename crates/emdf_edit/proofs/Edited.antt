@@ -23,7 +23,7 @@ use Rattle.emdf_plan.specs.declared.Plan.the-variants as Plan
 use Rattle.emdf_plan.specs.Plan.{newBits, planOf, spliced}
 use Rattle.emdf_field_writer.specs.Fields.{syncBits}
 use Rattle.emdf_edit.specs.Cuts.{keptBits, Within}
-use Rattle.emdf_edit.proofs.Blank.{front-written}
+use Rattle.emdf_field_writer.proofs.Written.{front-written}
 use Rattle.emdf_plan.proofs.Spliced.{Spliceable, plan-refused}
 
 pub length-sync : (n : ℕ) → length (syncBits n) ≡ 32

@@ -1,8 +1,7 @@
--- What a cut has to be, so that the edited carrier can be put; the contents of the blank one. Assumes nothing.
-use mathlib.Core.List.{List, []}
+-- What a cut has to be, so that the edited carrier can be put. Assumes nothing.
+use mathlib.Core.List.{List}
 use Prim.Native.Nat.{ℕ, _+_, _-_, _*_, _^_, _<_, _≤_}
 use lib.ListN.{length}
-use Rattle.emdf_format.specs.Contents.{Contents}
 use Rattle.emdf_plan.specs.declared.Cut.{Cut}
 
 -- the bits of a container after new ones came in at a cut
@@ -19,8 +18,3 @@ pub record Within (s : List ℕ) (cut : Cut) (new : List ℕ) : Type 0 where
   pub small : cut .size .0 < 65536
   pub covers : keptBits cut new ≤ 8 * cut .size .0
   pub close : 8 * cut .size .0 < keptBits cut new + 8
-
--- ---- the blank carrier
-
-abbrev pub blankContents : ℕ → List ℕ → List ℕ → Contents
-blankContents key a b = record { key-id = key; payloads = []; primary = a; secondary = b }

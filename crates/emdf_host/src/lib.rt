@@ -284,6 +284,6 @@ pub extern "C" fn emdf_blank(
 ) -> u32
     ensures { λ r. ⌜ (r ≡ editedNumber (blank key (now (primary .entry)) (now (secondary .entry)) (now (destination .entry)) .answer)) × (now (answer .exit) ≡ words (editedWords (blank key (now (primary .entry)) (now (secondary .entry)) (now (destination .entry)) .answer))) × (now (destination .exit) ≡ blank key (now (primary .entry)) (now (secondary .entry)) (now (destination .entry)) .destination) ⌝ }
 {
-    let edited = emdf_edit::blank_carrier(key, primary, secondary, destination);
+    let edited = emdf_blank::blank_carrier(key, primary, secondary, destination);
     emdf_rows::put_edited(answer, edited)
 }

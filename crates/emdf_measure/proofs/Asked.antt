@@ -6,8 +6,10 @@ use native.Mathlib.Omega.{arith}
 use native.Mathlib.Nat.{le-trans, mul-le-mul-right}
 use lib.Pow.{pow-mono}
 use lib.Pow.{shr-le}
-use Rattle.emdf_format.specs.Syntax.{capacity, countBefore, groups}
-use Rattle.emdf_format.specs.Contents.{_&_, iff, ruled}
+use lib.Dec.{ltb}
+use Rattle.openjoc_bitio.specs.Choice.{if_then_else_}
+use Rattle.emdf_format.specs.Syntax.{capacity, countBefore, groups, escape}
+use Rattle.emdf_format.specs.Contents.{_&_, iff, ruled, extensionBits}
 use Rattle.emdf_format.specs.declared.Optional.{Optional}
 use Rattle.emdf_format.proofs.Variable.{groups-least}
 
@@ -75,3 +77,11 @@ pub bits-few : (w g : ℕ) → w < 12 → g ≤ 64 → (w + 1) * g ≤ 768
 bits-few w g h l =
     let a : w + 1 ≤ 12 = omega arith in
     omega (arith, mul-le-mul-right g a)
+
+pub extension-few : (w v : ℕ) → 0 < w → w < 12 → v < 2 ^ 64 → extensionBits w v ≤ 768
+unfolding extensionBits
+extension-few w v h k l = go (ltb v (escape w))
+  where
+    go : (t : Bool) → (if t then 0 else (w + 1) * groups w (v - escape w)) ≤ 768
+    go true = omega arith
+    go false = bits-few w _ k (groups-few w (v - escape w) h (omega arith))

@@ -115,14 +115,6 @@ module _ (c : Contents) (w : T (writable c)) where
 
 -- ---- how many bits an edit brings
 
-pub extension-few : (w v : ℕ) → 0 < w → w < 12 → v < 2 ^ 64 → extensionBits w v ≤ 768
-unfolding extensionBits
-extension-few w v h k l = go (ltb v (escape w))
-  where
-    go : (t : Bool) → (if t then 0 else (w + 1) * groups w (v - escape w)) ≤ 768
-    go true = omega arith
-    go false = bits-few w _ k (groups-few w (v - escape w) h (omega arith))
-
 pub length-new : (e : Edit) → length (newBits e) ≡ fieldBits e + 8 * octetCount e
 unfolding newBits fieldBits octetCount neededPayload protectionBits
 length-new (bodyEdit k bs) = simp length-then (omega (arith, length-field 8 (length bs), length-octets bs))

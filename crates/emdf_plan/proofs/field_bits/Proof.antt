@@ -7,7 +7,7 @@ use lib.Dec.{lit<}
 use Rattle.emdf_format.specs.Syntax.{groups}
 use Rattle.emdf_measure.proofs.Asked.{groups-few}
 use Rattle.emdf_plan.specs.Plan.{editOf, fieldBits}
-use Rattle.emdf_plan.proofs.Asking.{extension-few}
+use Rattle.emdf_measure.proofs.Asked.{extension-few}
 use Rattle.emdf_plan.proofs.field_bits.Statement.{statement}
 use Rattle.emdf_plan.proofs.field_bits.Tie as tie
 

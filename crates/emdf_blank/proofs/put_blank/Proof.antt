@@ -4,9 +4,9 @@ use native.Mathlib.Omega.{arith}
 use denote.Ref.{now}
 use Rattle.openjoc_bitio.proofs.Bits.{length-number}
 use Rattle.emdf_field_writer.proofs.Putting.{then-put}
-use Rattle.emdf_edit.proofs.Blank.{blank-size, blank-bits}
-use Rattle.emdf_edit.proofs.put_blank.Statement.{statement}
-use Rattle.emdf_edit.proofs.put_blank.Tie as tie
+use Rattle.emdf_blank.proofs.Blank.{blank-size, blank-bits}
+use Rattle.emdf_blank.proofs.put_blank.Statement.{statement}
+use Rattle.emdf_blank.proofs.put_blank.Tie as tie
 
 put-header-requires : tie.Need-put-header-requires
 put-header-requires c κs =

@@ -3,9 +3,9 @@ use Prim.Native.Nat.{_≤_}
 use native.Mathlib.Omega.{arith}
 use lib.Dec.{lit<}
 use Rattle.emdf_format.specs.Contents.{declared, neededBits, neededPayloads}
-use Rattle.emdf_plan.proofs.Asking.{extension-few}
-use Rattle.emdf_edit.proofs.blank_declared.Statement.{statement}
-use Rattle.emdf_edit.proofs.blank_declared.Tie as tie
+use Rattle.emdf_measure.proofs.Asked.{extension-few}
+use Rattle.emdf_blank.proofs.blank_declared.Statement.{statement}
+use Rattle.emdf_blank.proofs.blank_declared.Tie as tie
 
 few : (c : tie.After-key-bits) → c .key-bits .result ≤ 773
 few c = omega (arith, c .key-bits .ensures, extension-few 3 (c .before .before .before .args .key) (lit< tt) (lit< tt) (omega arith))

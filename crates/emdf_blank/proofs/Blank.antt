@@ -21,7 +21,7 @@ use Rattle.emdf_format.proofs.Bytes.{declared-is}
 use Rattle.emdf_format.proofs.Splice.{⨟-assoc, written-bytes}
 use Rattle.emdf_measure.specs.Parts.{writableProtection}
 use Rattle.emdf_field_writer.specs.Fields.{syncBits, headerBits}
-use Rattle.emdf_edit.specs.Cuts.{blankContents}
+use Rattle.emdf_blank.specs.Blank.{blankContents}
 use Rattle.emdf_field_writer.proofs.Putting.{length-header}
 
 -- ---- sizes
@@ -92,21 +92,3 @@ module _ (key : ℕ) (a b : List ℕ) where
       pub in-room : n ≤ length dst → {d : List ℕ} → d ≡ carrier c ++ drop n dst → Answers (Written (record { 0 = n })) d
       unfolding blank inRoom stepAnswer written
       in-room h {d} k = let l : carrierLength c ≤ length dst = omega arith in simp (writable-blank, ok, le-leb (carrierLength c) (length dst) l, e) (refl, k ∙ ap (λ (m : ℕ). carrier c ++ drop m dst) e)
-
--- ---- the bytes that are written
-
-bytes-front : (xs ys : List ℕ) → Bytes (xs ++ ys) → Bytes xs
-bytes-front [] ys f k = lit< tt
-bytes-front (x ∷ xs) ys f zero = f 0
-bytes-front (x ∷ xs) ys f (suc k) = bytes-front xs ys (λ i. f (suc i)) k
-
--- p is what stands in the first n bytes of dst after their bits are put
-pub front-written : (c : Contents) (n : ℕ) (dst p : List ℕ) → n ≡ carrierLength c → n ≤ length dst → Bytes dst → Bytes (p ++ drop n dst)
-    → octetBits p ≡ sets (octetBits (take n dst)) 0 (carrierBits c) → p ++ drop n dst ≡ carrier c ++ drop n dst
-front-written c n dst p e h f g k =
-    let l : length (take n dst) ≡ n = length-take-le n dst h in
-    let t : Bytes (take n dst) = bytes-front (take n dst) (drop n dst) (subst Bytes (sym (take-append-drop n dst)) f) in
-    let w : p ≡ carrier c ++ drop (carrierLength c) (take n dst) = written-bytes c (take n dst) p t (bytes-front p (drop n dst) g) (omega (arith, l, e)) k in
-    let z : carrierLength c ≡ length (take n dst) = omega (arith, l, e) in
-    let q : carrier c ++ drop (carrierLength c) (take n dst) ≡ carrier c = rw (z, drop-length) (append-nil (carrier c)) in
-    ap (λ (x : List ℕ). x ++ drop n dst) (w ∙ q)

@@ -8,10 +8,11 @@ use lib.Seq.{length-take-le}
 use Rattle.emdf_format.specs.Edits.{carrierLength}
 use Rattle.emdf_format.proofs.Standing.{fails, holds}
 use Rattle.emdf_measure.specs.Parts.{writableProtection}
-use Rattle.emdf_edit.specs.Cuts.{blankContents}
-use Rattle.emdf_edit.proofs.Blank.{writable-short, not-writable, no-room, in-room, front-written}
-use Rattle.emdf_edit.proofs.blank_carrier.Statement.{statement}
-use Rattle.emdf_edit.proofs.blank_carrier.Tie as tie
+use Rattle.emdf_blank.specs.Blank.{blankContents}
+use Rattle.emdf_blank.proofs.Blank.{writable-short, not-writable, no-room, in-room}
+use Rattle.emdf_field_writer.proofs.Written.{front-written}
+use Rattle.emdf_blank.proofs.blank_carrier.Statement.{statement}
+use Rattle.emdf_blank.proofs.blank_carrier.Tie as tie
 
 ok : (c : tie.Else1) → let a = c .before .before .before .before .before .args in writableProtection (now (a .primary)) (now (a .secondary)) ≡ true
 ok c = holds (c .if1 .left) (c .before .writable-protection .ensures)
