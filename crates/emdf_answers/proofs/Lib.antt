@@ -2,4 +2,3 @@ pub mod Form
 pub mod Carriers
 pub mod Protection
 pub mod Verdict
-pub mod Settings

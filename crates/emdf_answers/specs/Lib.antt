@@ -3,5 +3,4 @@ pub mod Bits
 pub mod Fields
 pub mod Carriers
 pub mod Verdict
-pub mod Settings
 pub mod Edits

@@ -11,7 +11,7 @@ ghost use Rattle.emdf_answers.specs.Bits.{replyBytes, newReply, remainingReply,
 ghost use Rattle.emdf_answers.specs.Fields.{variableBitsReply};
 ghost use Rattle.emdf_answers.specs.Carriers.{readInto, readNumber, readWords, rowsAfter, classNumber, classWords, moveNumber, moveWords};
 ghost use Rattle.emdf_answers.specs.Verdict.{profileOf, verdictNumber, verdictWords};
-ghost use Rattle.emdf_answers.specs.Settings.{settingsOf};
+ghost use Rattle.emdf_settings_bytes.specs.Settings.{settingsOf};
 ghost use Rattle.emdf_answers.specs.Edits.{editedNumber, editedWords};
 use openjoc_bitio::BitCursor;
 use openjoc_emdf::OpenAnswer;
@@ -207,7 +207,7 @@ pub extern "C" fn emdf_edit_settings(
 ) -> u32
     ensures { λ r. ⌜ (r ≡ editedNumber (edited (settingsEdit place (settingsOf (now (settings .entry)))) (now (source .entry)) (now (destination .entry)) .answer)) × (now (answer .exit) ≡ words (editedWords (edited (settingsEdit place (settingsOf (now (settings .entry)))) (now (source .entry)) (now (destination .entry)) .answer))) × (now (destination .exit) ≡ edited (settingsEdit place (settingsOf (now (settings .entry)))) (now (source .entry)) (now (destination .entry)) .destination) ⌝ }
 {
-    let config = emdf_answers::settings_of(settings);
+    let config = emdf_settings_bytes::settings_of(settings);
     let edited = emdf_edit::replace_settings(source, place, config, destination);
     emdf_rows::put_edited(answer, edited)
 }
@@ -239,7 +239,7 @@ pub extern "C" fn emdf_edit_insert(
 ) -> u32
     ensures { λ r. ⌜ (r ≡ editedNumber (edited (insertEdit place id (settingsOf (now (settings .entry))) (now (body .entry))) (now (source .entry)) (now (destination .entry)) .answer)) × (now (answer .exit) ≡ words (editedWords (edited (insertEdit place id (settingsOf (now (settings .entry))) (now (body .entry))) (now (source .entry)) (now (destination .entry)) .answer))) × (now (destination .exit) ≡ edited (insertEdit place id (settingsOf (now (settings .entry))) (now (body .entry))) (now (source .entry)) (now (destination .entry)) .destination) ⌝ }
 {
-    let config = emdf_answers::settings_of(settings);
+    let config = emdf_settings_bytes::settings_of(settings);
     let edited = emdf_edit::insert_payload(source, place, id, config, body, destination);
     emdf_rows::put_edited(answer, edited)
 }

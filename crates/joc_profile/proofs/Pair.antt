@@ -150,7 +150,7 @@ unfolding pairOf
 never-refused xs is h = let e = sym is ∙ h in let w : _≡_ {A = ℕ} 0 1 = cc in omega arith
 
 module _ (profile : JocValidationProfile) (s : List ℕ) where
-  pub refused-verdict : {a : OpenAnswer} {why x : EmdfError} → a ≡ openAnswer s (reading s) → a ≡ OpenAnswer.Refused why → x ≡ openError a → JocProfileAnswer.Refused (Emdf x) ≡ verdict profile s
+  pub refused-verdict : {a : OpenAnswer} {why x : EmdfError} → a ≡ openAnswer s (reading s) → a ≡ OpenAnswer.Refused why → x ≡ openError a x → JocProfileAnswer.Refused (Emdf x) ≡ verdict profile s
   unfolding verdict verdictOn
   refused-verdict {a} {why} {x} i h k = let z : x ≡ why = rw h at k in rw (unopened s (sym i ∙ h), z)
 

@@ -1,19 +1,14 @@
--- The two payloads of table 55 as they are met one after another, and the code's shares of the verdict. Assumes nothing.
-use mathlib.Core.Bool.{Bool, _||_}
+-- The two payloads of table 55 as they are met one after another. Assumes nothing.
 use mathlib.Core.List.{List, [], _∷_}
 use mathlib.Core.Option.{Option, none, some}
 use Prim.Native.Nat.{ℕ, _+_}
 use lib.Dec.{eqb}
 use Rattle.openjoc_bitio.specs.Choice.{if_then_else_}
 use Rattle.emdf_format.specs.Reading.{Found}
-use Rattle.emdf_format.specs.Profile.{meets, lets, judged}
-use Rattle.emdf_format.specs.declared.Optional.{Optional}
+use Rattle.emdf_format.specs.Profile.{judged}
 use Rattle.emdf_format.specs.declared.EmdfError.{EmdfError}
-use Rattle.emdf_format.specs.declared.EmdfError.the-variants.{ValueOverflow}
 use Rattle.emdf_format.specs.declared.PayloadRecord.{PayloadRecord}
 use Rattle.emdf_format.specs.declared.PlacedConfig.{PlacedConfig}
-use Rattle.emdf_format.specs.declared.AllowedDeviation.{AllowedDeviation}
-use Rattle.emdf_format.specs.declared.JocProfileValue.{JocProfileValue}
 use Rattle.emdf_format.specs.declared.JocValidationProfile.{JocValidationProfile}
 use Rattle.emdf_format.specs.declared.JocProfileError.the-variants.{PayloadCount}
 use Rattle.emdf_format.specs.declared.JocProfileAnswer.{JocProfileAnswer}
@@ -59,20 +54,12 @@ placedOf (Several n) = none
 unfoldable pub judgedPair : JocValidationProfile → Seen → Seen → JocProfileAnswer
 judgedPair profile o j = judged profile (placedOf o) (placedOf j) (JocProfileAnswer.Refused (PayloadCount (countOf o) (countOf j)))
 
--- ---- one setting
+-- ---- r is why an answer is refused; of an accepted one nothing is said
 
-unfoldable pub passesAs : JocProfileValue → AllowedDeviation → Optional → Bool
-passesAs wanted allowed found = meets wanted found || lets allowed found
+abbrev pub openError : OpenAnswer → EmdfError → EmdfError
+openError (OpenAnswer.Open p c) r = r
+openError (OpenAnswer.Refused why) r = why
 
-abbrev pub bitOf : Bool → ℕ
-bitOf b = if b then 1 else 0
-
--- ---- why an answer is refused: only refusals are asked
-
-abbrev pub openError : OpenAnswer → EmdfError
-openError (OpenAnswer.Open p c) = ValueOverflow
-openError (OpenAnswer.Refused why) = why
-
-abbrev pub pairError : PairAnswer → EmdfError
-pairError (Pair o j) = ValueOverflow
-pairError (Refused why) = why
+abbrev pub pairError : PairAnswer → EmdfError → EmdfError
+pairError (Pair o j) r = r
+pairError (Refused why) r = why
