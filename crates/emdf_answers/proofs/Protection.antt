@@ -8,7 +8,7 @@ use lib.Pow.{pow-add}
 use lib.ListN.{length, take, drop, length-drop, take-append-drop}
 use lib.Seq.{getD-drop, length-take-le}
 use Rattle.emdf_format.specs.Edits.{Bytes}
-use Rattle.openjoc_emdf.specs.Answers.{bytesNumber, protectionBytes}
+use Rattle.emdf_container.specs.Container.{bytesNumber, protectionBytes}
 use Rattle.emdf_answers.specs.Form.{bigEndian, words}
 use Rattle.emdf_answers.specs.Carriers.{padded}
 

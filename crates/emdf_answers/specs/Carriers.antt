@@ -12,7 +12,7 @@ use Rattle.emdf_format.specs.declared.PayloadRecord.{PayloadRecord}
 use Rattle.emdf_format.specs.declared.BodyAnswer.{BodyAnswer}
 use Rattle.emdf_format.specs.declared.BodyAnswer.the-variants as BodyAnswer
 use Rattle.openjoc_emdf.specs.Answers.{parsedEmdf}
-use Rattle.openjoc_emdf.specs.declared.ProtectionBytes.{ProtectionBytes}
+use Rattle.emdf_container.specs.declared.ProtectionBytes.{ProtectionBytes}
 use Rattle.openjoc_emdf.specs.declared.ParsedEmdf.{ParsedEmdf}
 use Rattle.openjoc_emdf.specs.declared.CarrierClassification.{CarrierClassification}
 use Rattle.openjoc_emdf.specs.declared.CarrierClassification.the-variants as CarrierClassification

@@ -12,7 +12,8 @@ use Rattle.emdf_format.specs.Calls.{number, figures, recordsNumber, recordsFigu
 use Rattle.emdf_format.specs.declared.EmdfError.{EmdfError}
 use Rattle.emdf_format.specs.declared.RecordsError.{RecordsError}
 use Rattle.emdf_format.specs.declared.RecordsError.the-variants.{Emdf, TableTooShort}
-use Rattle.openjoc_emdf.specs.Answers.{containerOf, openAnswer}
+use Rattle.openjoc_emdf.specs.Answers.{openAnswer}
+use Rattle.emdf_container.specs.Container.{containerOf}
 use Rattle.openjoc_emdf.specs.declared.ParsedEmdf.{ParsedEmdf}
 use Rattle.openjoc_emdf.specs.declared.OpenAnswer.the-variants as OpenAnswer
 use Rattle.emdf_payloads.specs.Payloads.{Listed}

@@ -14,7 +14,8 @@ use Rattle.emdf_format.proofs.Lengths.{length-extended, length-container}
 use Rattle.emdf_format.proofs.Container.{contained-stands}
 use Rattle.emdf_format.proofs.Carrier.{read-contained, read-limit, read-size}
 use Rattle.emdf_fields.specs.Fields.{fieldAnswer}
-use Rattle.openjoc_emdf.specs.Answers.{firstPayload, containerOf, protectionBytes, Opened}
+use Rattle.openjoc_emdf.specs.Answers.{firstPayload, Opened}
+use Rattle.emdf_container.specs.Container.{containerOf, protectionBytes}
 use Rattle.openjoc_emdf.specs.declared.ParsedEmdf.{ParsedEmdf}
 use Rattle.emdf_payloads.specs.Payloads.{stepAt}
 use Rattle.emdf_plan.specs.Plan.{layoutOf}

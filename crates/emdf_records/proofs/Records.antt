@@ -15,7 +15,8 @@ use Rattle.emdf_format.specs.declared.EmdfError.{EmdfError}
 use Rattle.emdf_format.specs.declared.PayloadRecord.{PayloadRecord}
 use Rattle.emdf_format.specs.declared.RecordsError.the-variants as RecordsError
 use Rattle.emdf_format.proofs.Standing.{T-of}
-use Rattle.openjoc_emdf.specs.Answers.{containerOf, parsedEmdf, firstPayload, openAnswer}
+use Rattle.openjoc_emdf.specs.Answers.{parsedEmdf, firstPayload, openAnswer}
+use Rattle.emdf_container.specs.Container.{containerOf}
 use Rattle.openjoc_emdf.specs.declared.ParsedEmdf.{ParsedEmdf}
 use Rattle.emdf_payloads.specs.declared.PayloadStep.the-variants as PayloadStep
 use Rattle.openjoc_emdf.specs.declared.OpenAnswer.the-variants as OpenAnswer

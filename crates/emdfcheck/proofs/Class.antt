@@ -15,7 +15,8 @@ use Rattle.emdf_format.specs.Contents.{_&_}
 use Rattle.emdf_format.specs.Reading.{Container, Reading, accepted, refusal, reading}
 use Rattle.emdf_format.specs.Calls.{number, Class, nonEmdf, malformed, classOf, classify}
 use Rattle.emdf_format.specs.declared.EmdfError.{EmdfError}
-use Rattle.openjoc_emdf.specs.Answers.{containerOf, parsedEmdf, parseAnswer, firstPayload, openAnswer, classAnswer}
+use Rattle.openjoc_emdf.specs.Answers.{parsedEmdf, parseAnswer, firstPayload, openAnswer, classAnswer}
+use Rattle.emdf_container.specs.Container.{containerOf}
 use Rattle.openjoc_emdf.specs.declared.ParsedEmdf.{ParsedEmdf}
 use Rattle.openjoc_emdf.specs.declared.OpenAnswer.{OpenAnswer}
 use Rattle.openjoc_emdf.specs.declared.OpenAnswer.the-variants as OpenAnswer

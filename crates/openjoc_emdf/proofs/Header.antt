@@ -16,7 +16,8 @@ use Rattle.emdf_format.specs.Reading.{Container, Reading, accepted, refusal, co
 use Rattle.emdf_format.specs.Calls.{parsed, trailingData, classOf, classify}
 use Rattle.emdf_format.specs.declared.EmdfError.the-variants.{TruncatedContainer, InvalidSyncword}
 use Rattle.emdf_format.proofs.Bytes.{byte-value}
-use Rattle.openjoc_emdf.specs.Answers.{containerOf, containerAnswer, parsedOf, parseAnswer, classAnswer, classifiedOf}
+use Rattle.openjoc_emdf.specs.Answers.{parsedOf, parseAnswer, classAnswer, classifiedOf}
+use Rattle.emdf_container.specs.Container.{containerOf, containerAnswer}
 use Rattle.openjoc_emdf.specs.declared.ParseAnswer.{ParseAnswer}
 use Rattle.openjoc_emdf.specs.declared.ParseAnswer.the-variants as ParseAnswer
 use Rattle.openjoc_emdf.specs.declared.CarrierClassification.{CarrierClassification}

@@ -12,7 +12,7 @@ use Rattle.emdf_format.specs.Reader.{got, cursorAt, extendedValue}
 use Rattle.emdf_format.specs.Syntax.{escape}
 use Rattle.emdf_fields.specs.Fields.{fieldAnswer}
 use Rattle.openjoc_emdf.specs.Answers.{reachedBy, firstPayload}
-use Rattle.openjoc_emdf.proofs.Words.{key-found}
+use Rattle.emdf_container.proofs.Words.{key-found}
 use Rattle.openjoc_emdf.proofs.first_payload.Statement.{statement}
 use Rattle.openjoc_emdf.proofs.first_payload.Tie as tie
 

@@ -1,6 +1,6 @@
 use borrow.Author.Needs.{needs}
 use Prim.Native.Nat.{_+_}
-use Rattle.openjoc_emdf.specs.declared.ContainerAnswer.{ContainerAnswer}
+use Rattle.emdf_container.specs.declared.ContainerAnswer.{ContainerAnswer}
 use mathlib.Core.Path.{sym, ap, _∙_}
 use lib.Seq.{length-take-le}
 use native.Mathlib.Omega.{arith}

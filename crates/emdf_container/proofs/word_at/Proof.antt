@@ -1,7 +1,7 @@
 use borrow.Author.Needs.{needs}
-use Rattle.openjoc_emdf.proofs.Words.{word-value}
-use Rattle.openjoc_emdf.proofs.word_at.Statement.{statement}
-use Rattle.openjoc_emdf.proofs.word_at.Tie as tie
+use Rattle.emdf_container.proofs.Words.{word-value}
+use Rattle.emdf_container.proofs.word_at.Statement.{statement}
+use Rattle.emdf_container.proofs.word_at.Tie as tie
 
 window-at-requires : tie.Need-window-at-requires
 window-at-requires c κs = search needs

@@ -5,12 +5,12 @@ use borrow.Author.Tests.{eq-eqb, ne-eqb}
 use Rattle.emdf_format.proofs.Standing.{T-of, T-not-of}
 use Rattle.emdf_format.specs.Syntax.{escape}
 use Rattle.emdf_format.specs.Reading.{container}
-use Rattle.openjoc_emdf.specs.Answers.{containerAfter, containerAnswer}
-use Rattle.openjoc_emdf.specs.declared.ContainerAnswer.the-variants.{Refused}
+use Rattle.emdf_container.specs.Container.{containerAfter, containerAnswer}
+use Rattle.emdf_container.specs.declared.ContainerAnswer.the-variants.{Refused}
 use Rattle.emdf_fields.proofs.Answers.{field-found, via, yes, no-more, by-field}
-use Rattle.openjoc_emdf.proofs.Ends.{container-refuses}
-use Rattle.openjoc_emdf.proofs.container_by_fields.Statement.{statement}
-use Rattle.openjoc_emdf.proofs.container_by_fields.Tie as tie
+use Rattle.emdf_container.proofs.Ends.{container-refuses}
+use Rattle.emdf_container.proofs.container_by_fields.Statement.{statement}
+use Rattle.emdf_container.proofs.container_by_fields.Tie as tie
 
 extended-value-requires : tie.Need-extended-value-requires
 unfolding escape

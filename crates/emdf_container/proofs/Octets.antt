@@ -23,11 +23,11 @@ use Rattle.emdf_format.specs.Reading.{padding}
 use Rattle.emdf_format.specs.declared.EmdfError.the-variants.{ExcessPadding, NonzeroPadding}
 use Rattle.emdf_format.proofs.Standing.{bitLimit, remaining-limit, T-of, T-not-of, bind-go, bind-no, give-go, ask-go, ask-refuses, ask-fine}
 use Rattle.emdf_format.proofs.Loops.{bits-there}
-use Rattle.openjoc_emdf.specs.Answers.{bytesNumber, protectionBytes, bytesAnswer, valueThere, paddingValue}
+use Rattle.emdf_container.specs.Container.{bytesNumber, protectionBytes, bytesAnswer, valueThere, paddingValue}
 use Rattle.emdf_fields.proofs.Octets.{length-octets-at, Passed}
 use Rattle.emdf_fields.specs.Fields.{fieldAnswer}
 use Rattle.emdf_fields.specs.declared.FieldAnswer.the-variants.{Value, Refused}
-use Rattle.openjoc_emdf.specs.declared.BytesAnswer.the-variants as BytesAnswer
+use Rattle.emdf_container.specs.declared.BytesAnswer.the-variants as BytesAnswer
 
 -- octets, taken after k bits that make v
 octets-number : (s : List ℕ) (p k n : ℕ) → bytesNumber (bitsValue s p k) (octetsAt s (p + k) n) ≡ bitsValue s p (k + 8 * n)

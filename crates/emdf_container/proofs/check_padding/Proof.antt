@@ -5,9 +5,9 @@ use native.Mathlib.Omega.{arith}
 use denote.Ref.{now}
 use Rattle.openjoc_bitio.specs.Cursor.{bitsRemaining}
 use Rattle.openjoc_bitio.proofs.Cursor.{remaining-end}
-use Rattle.openjoc_emdf.proofs.Octets.{pad-excess, pad-nonzero, pad-fine, rest-value}
-use Rattle.openjoc_emdf.proofs.check_padding.Statement.{statement}
-use Rattle.openjoc_emdf.proofs.check_padding.Tie as tie
+use Rattle.emdf_container.proofs.Octets.{pad-excess, pad-nonzero, pad-fine, rest-value}
+use Rattle.emdf_container.proofs.check_padding.Statement.{statement}
+use Rattle.emdf_container.proofs.check_padding.Tie as tie
 
 bits-remaining-requires : tie.Need-bits-remaining-requires
 bits-remaining-requires c κs = search needs

@@ -13,11 +13,11 @@ use Rattle.emdf_format.proofs.Standing.{bind-go}
 use Rattle.emdf_fields.specs.Fields.{fieldAnswer, fieldError}
 use Rattle.emdf_fields.specs.declared.FieldAnswer.{FieldAnswer}
 use Rattle.emdf_fields.specs.declared.FieldAnswer.the-variants as FieldAnswer
-use Rattle.openjoc_emdf.specs.Answers.{protectionBytes, bytesAnswer, paddingValue, containerAnswer, bytesError}
-use Rattle.openjoc_emdf.specs.declared.ProtectionBytes.{ProtectionBytes}
-use Rattle.openjoc_emdf.specs.declared.BytesAnswer.{BytesAnswer}
-use Rattle.openjoc_emdf.specs.declared.BytesAnswer.the-variants as BytesAnswer
-use Rattle.openjoc_emdf.specs.declared.ContainerAnswer.the-variants as ContainerAnswer
+use Rattle.emdf_container.specs.Container.{protectionBytes, bytesAnswer, paddingValue, containerAnswer, bytesError}
+use Rattle.emdf_container.specs.declared.ProtectionBytes.{ProtectionBytes}
+use Rattle.emdf_container.specs.declared.BytesAnswer.{BytesAnswer}
+use Rattle.emdf_container.specs.declared.BytesAnswer.the-variants as BytesAnswer
+use Rattle.emdf_container.specs.declared.ContainerAnswer.the-variants as ContainerAnswer
 use Rattle.emdf_fields.proofs.Answers.{Found, ends}
 
 -- ---- what the answers say

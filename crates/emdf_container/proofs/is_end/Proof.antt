@@ -2,9 +2,9 @@ use borrow.Author.Needs.{needs}
 use Prim.Native.Nat.{ℕ}
 use mathlib.Core.Path.{_≡_}
 use native.Mathlib.Omega.{arith}
-use Rattle.openjoc_emdf.proofs.Words.{end-is}
-use Rattle.openjoc_emdf.proofs.is_end.Statement.{statement}
-use Rattle.openjoc_emdf.proofs.is_end.Tie as tie
+use Rattle.emdf_container.proofs.Words.{end-is}
+use Rattle.emdf_container.proofs.is_end.Statement.{statement}
+use Rattle.emdf_container.proofs.is_end.Tie as tie
 
 returns : tie.Need-returns
 returns c = λ h. absurd (let z : _≡_ {A = ℕ} 0 1 = cc in omega arith)

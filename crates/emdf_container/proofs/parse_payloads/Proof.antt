@@ -1,11 +1,11 @@
 use borrow.Author.Needs.{needs}
 use mathlib.Core.Path.{sym, _∙_}
-use Rattle.openjoc_emdf.specs.Answers.{containerAfter, containerAnswer}
-use Rattle.openjoc_emdf.specs.declared.ContainerAnswer.the-variants.{Refused}
+use Rattle.emdf_container.specs.Container.{containerAfter, containerAnswer}
+use Rattle.emdf_container.specs.declared.ContainerAnswer.the-variants.{Refused}
 use Rattle.emdf_fields.proofs.Answers.{via, count-found, by-count}
-use Rattle.openjoc_emdf.proofs.Ends.{left, container-refuses}
-use Rattle.openjoc_emdf.proofs.parse_payloads.Statement.{statement}
-use Rattle.openjoc_emdf.proofs.parse_payloads.Tie as tie
+use Rattle.emdf_container.proofs.Ends.{left, container-refuses}
+use Rattle.emdf_container.proofs.parse_payloads.Statement.{statement}
+use Rattle.emdf_container.proofs.parse_payloads.Tie as tie
 
 count-payloads-requires : tie.Need-count-payloads-requires
 count-payloads-requires c κs = search needs

@@ -1,8 +1,8 @@
 use borrow.Author.Needs.{needs}
 use mathlib.Core.Path.{sym, _∙_}
-use Rattle.openjoc_emdf.proofs.Octets.{value-read, value-unread}
-use Rattle.openjoc_emdf.proofs.value_at.Statement.{statement}
-use Rattle.openjoc_emdf.proofs.value_at.Tie as tie
+use Rattle.emdf_container.proofs.Octets.{value-read, value-unread}
+use Rattle.emdf_container.proofs.value_at.Statement.{statement}
+use Rattle.emdf_container.proofs.value_at.Tie as tie
 
 cast-read-bits : tie.Need-cast-read-bits
 cast-read-bits c = search needs

@@ -5,11 +5,11 @@ use native.Mathlib.Omega.{arith}
 use denote.Ref.{now}
 use Rattle.openjoc_bitio.proofs.Cursor.{remaining-end}
 use Rattle.emdf_format.proofs.Standing.{holds}
-use Rattle.openjoc_emdf.specs.Answers.{containerOf, containerAnswer}
-use Rattle.openjoc_emdf.proofs.Ends.{short-protection}
-use Rattle.openjoc_emdf.proofs.Words.{end-fits, fits-word, end-found}
-use Rattle.openjoc_emdf.proofs.container_end.Statement.{statement}
-use Rattle.openjoc_emdf.proofs.container_end.Tie as tie
+use Rattle.emdf_container.specs.Container.{containerOf, containerAnswer}
+use Rattle.emdf_container.proofs.Ends.{short-protection}
+use Rattle.emdf_container.proofs.Words.{end-fits, fits-word, end-found}
+use Rattle.emdf_container.proofs.container_end.Statement.{statement}
+use Rattle.emdf_container.proofs.container_end.Tie as tie
 
 bits-remaining-requires : tie.Need-bits-remaining-requires
 bits-remaining-requires c κs = search needs

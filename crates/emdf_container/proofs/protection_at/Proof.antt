@@ -5,10 +5,10 @@ use native.Mathlib.Omega.{arith}
 use denote.Ref.{now}
 use Rattle.openjoc_bitio.specs.Bits.{bitsValue}
 use Rattle.openjoc_bitio.proofs.Bits.{value-none}
-use Rattle.openjoc_emdf.proofs.Octets.{long-is, short-is}
-use Rattle.openjoc_emdf.proofs.Words.{shifted}
-use Rattle.openjoc_emdf.proofs.protection_at.Statement.{statement}
-use Rattle.openjoc_emdf.proofs.protection_at.Tie as tie
+use Rattle.emdf_container.proofs.Octets.{long-is, short-is}
+use Rattle.emdf_container.proofs.Words.{shifted}
+use Rattle.emdf_container.proofs.protection_at.Statement.{statement}
+use Rattle.emdf_container.proofs.protection_at.Tie as tie
 
 word-at-requires : tie.Need-word-at-requires
 word-at-requires c κs = search needs

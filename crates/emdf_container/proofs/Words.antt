@@ -20,8 +20,8 @@ use Rattle.emdf_format.specs.Reading.{Found, padding, containerEnd, container}
 use Rattle.emdf_format.proofs.Standing.{bitLimit, remaining-limit, bind-go, ask-go, choose-that, give-go, T-of, T-not-of}
 use Rattle.emdf_format.proofs.Loops.{bits-there, octets-there}
 use Rattle.emdf_fields.proofs.Word.{Word, word-window, word-bits, word-low}
-use Rattle.openjoc_emdf.specs.Answers.{IsEnd, containerAfter}
-use Rattle.openjoc_emdf.proofs.Octets.{padding-there}
+use Rattle.emdf_container.specs.Container.{IsEnd, containerAfter}
+use Rattle.emdf_container.proofs.Octets.{padding-there}
 
 -- a window, shifted twice
 pub shifted : (s : List ℕ) (p j k n : ℕ) {x : ℕ} → x ≡ windowAt s p → j + k ≡ 64 - n → n ≤ 57 → x / 2 ^ j / 2 ^ k ≡ bitsValue s p n

@@ -6,13 +6,13 @@ use denote.Ref.{now}
 use Rattle.openjoc_bitio.specs.Cursor.{bitsRemaining}
 use Rattle.openjoc_bitio.proofs.Cursor.{remaining-end}
 use Rattle.emdf_format.proofs.Standing.{bitLimit, remaining-limit}
-use Rattle.openjoc_emdf.specs.Answers.{bytesAnswer}
-use Rattle.openjoc_emdf.specs.declared.BytesAnswer.the-variants.{Refused}
+use Rattle.emdf_container.specs.Container.{bytesAnswer}
+use Rattle.emdf_container.specs.declared.BytesAnswer.the-variants.{Refused}
 use Rattle.emdf_fields.proofs.Answers.{count-ended}
 use Rattle.emdf_fields.proofs.Octets.{passed}
-use Rattle.openjoc_emdf.proofs.Octets.{bytes-are}
-use Rattle.openjoc_emdf.proofs.protection_bytes.Statement.{statement}
-use Rattle.openjoc_emdf.proofs.protection_bytes.Tie as tie
+use Rattle.emdf_container.proofs.Octets.{bytes-are}
+use Rattle.emdf_container.proofs.protection_bytes.Statement.{statement}
+use Rattle.emdf_container.proofs.protection_bytes.Tie as tie
 
 skip-octets-requires : tie.Need-skip-octets-requires
 skip-octets-requires c κs = search needs

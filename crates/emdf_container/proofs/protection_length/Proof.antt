@@ -1,7 +1,7 @@
 use Rattle.emdf_format.specs.Contents.{protectionLength}
-use Rattle.openjoc_emdf.proofs.Octets.{protection-long}
-use Rattle.openjoc_emdf.proofs.protection_length.Statement.{statement}
-use Rattle.openjoc_emdf.proofs.protection_length.Tie as tie
+use Rattle.emdf_container.proofs.Octets.{protection-long}
+use Rattle.emdf_container.proofs.protection_length.Statement.{statement}
+use Rattle.emdf_container.proofs.protection_length.Tie as tie
 
 returns : tie.Need-returns
 unfolding protectionLength

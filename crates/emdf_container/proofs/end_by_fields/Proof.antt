@@ -5,12 +5,12 @@ use borrow.Author.Tests.{eq-eqb, ne-eqb}
 use Rattle.emdf_format.proofs.Standing.{T-of, T-not-of}
 use Rattle.emdf_format.specs.Reader.{give}
 use Rattle.emdf_format.specs.Reading.{containerEnd}
-use Rattle.openjoc_emdf.specs.Answers.{containerOf, containerAnswer}
-use Rattle.openjoc_emdf.specs.declared.ContainerAnswer.the-variants.{Refused}
+use Rattle.emdf_container.specs.Container.{containerOf, containerAnswer}
+use Rattle.emdf_container.specs.declared.ContainerAnswer.the-variants.{Refused}
 use Rattle.emdf_fields.proofs.Answers.{field-found, via, yes, no-more, by-field}
-use Rattle.openjoc_emdf.proofs.Ends.{bytes-found, bytes-as, padded, by-bytes, by-padding, container-refuses, short-protection}
-use Rattle.openjoc_emdf.proofs.end_by_fields.Statement.{statement}
-use Rattle.openjoc_emdf.proofs.end_by_fields.Tie as tie
+use Rattle.emdf_container.proofs.Ends.{bytes-found, bytes-as, padded, by-bytes, by-padding, container-refuses, short-protection}
+use Rattle.emdf_container.proofs.end_by_fields.Statement.{statement}
+use Rattle.emdf_container.proofs.end_by_fields.Tie as tie
 
 read-bits-requires : tie.Need-read-bits-requires
 read-bits-requires c κs = search needs

@@ -5,10 +5,10 @@ use native.Mathlib.Omega.{arith}
 use denote.Ref.{now}
 use Rattle.openjoc_bitio.specs.Cursor.{bitsRemaining}
 use Rattle.openjoc_bitio.proofs.Cursor.{remaining-end}
-use Rattle.openjoc_emdf.specs.Answers.{containerAnswer}
-use Rattle.openjoc_emdf.proofs.Words.{header-found}
-use Rattle.openjoc_emdf.proofs.parse_container.Statement.{statement}
-use Rattle.openjoc_emdf.proofs.parse_container.Tie as tie
+use Rattle.emdf_container.specs.Container.{containerAnswer}
+use Rattle.emdf_container.proofs.Words.{header-found}
+use Rattle.emdf_container.proofs.parse_container.Statement.{statement}
+use Rattle.emdf_container.proofs.parse_container.Tie as tie
 
 window-at-requires : tie.Need-window-at-requires
 window-at-requires c κs = search needs
