@@ -26,12 +26,12 @@ use Rattle.emdf_payloads.specs.declared.PayloadStep.{PayloadStep}
 use Rattle.emdf_payloads.specs.declared.PayloadStep.the-variants as PayloadStep
 use Rattle.emdf_payloads.proofs.PayloadStep as step-type
 use Rattle.emdf_payloads.proofs.PayloadStep.Laws as step-laws
-use Rattle.emdf_records.specs.declared.RecordsAnswer.{RecordsAnswer}
-use Rattle.emdf_records.proofs.RecordsAnswer as answer-type
-use Rattle.emdf_records.proofs.RecordsAnswer.Laws as answer-laws
-use Rattle.emdf_records.specs.declared.RecordsPlan.{RecordsPlan}
-use Rattle.emdf_records.proofs.RecordsPlan as plan-type
-use Rattle.emdf_records.proofs.RecordsPlan.Laws as plan-laws
+use Rattle.emdf_records_plan.specs.declared.RecordsAnswer.{RecordsAnswer}
+use Rattle.emdf_records_plan.proofs.RecordsAnswer as answer-type
+use Rattle.emdf_records_plan.proofs.RecordsAnswer.Laws as answer-laws
+use Rattle.emdf_records_plan.specs.declared.RecordsPlan.{RecordsPlan}
+use Rattle.emdf_records_plan.proofs.RecordsPlan as plan-type
+use Rattle.emdf_records_plan.proofs.RecordsPlan.Laws as plan-laws
 
 -- ---- a record
 

@@ -54,14 +54,14 @@ use Rattle.emdf_format.specs.declared.PayloadRecord.{PayloadRecord}
 use Rattle.emdf_payloads.specs.declared.PayloadStep.{PayloadStep}
 use Rattle.emdf_payloads.specs.declared.PayloadStep.the-variants.{Payload, End, Refused}
 use Rattle.emdf_payloads.specs.Payloads.{stepAt}
-use Rattle.emdf_records.specs.declared.RecordsPlan.{RecordsPlan}
-use Rattle.emdf_records.proofs.Records.{inside, never-ended, never-refused, plan-is}
+use Rattle.emdf_records_plan.specs.declared.RecordsPlan.{RecordsPlan}
+use Rattle.emdf_records_plan.proofs.Records.{inside, never-ended, never-refused, plan-is}
 use Rattle.emdf_records.proofs.Row.{Record, recordTy, recordVal, record-tells, record-made, record-typed, row-fits, row-place, Cursor, cursorTy, cursorVal, cursor-made, cursor-typed, Step, stepTy, stepVal, step-tells, step-typed, step-record, step-cursor, Answer, answerTy, answerVal, answer-made, answer-typed, Plan, planTy, planVal, plan-tells, plan-typed, plan-answer, plan-first}
 use Rattle.emdf_records.proofs.Fill.{plan, done as left-by, State, room as plan-room, start, some-left, next, nearer, over}
-use Rattle.emdf_records.proofs.plan_records as planner
-use Rattle.emdf_records.proofs.plan_records.Symbol as planner-def
-use Rattle.emdf_records.proofs.plan_records.Symbol.{name as #emdf-records·plan-records}
-use Rattle.emdf_records.proofs.plan_records.Met as planner-thm
+use Rattle.emdf_records_plan.proofs.plan_records as planner
+use Rattle.emdf_records_plan.proofs.plan_records.Symbol as planner-def
+use Rattle.emdf_records_plan.proofs.plan_records.Symbol.{name as #emdf-records-plan·plan-records}
+use Rattle.emdf_records_plan.proofs.plan_records.Met as planner-thm
 use Rattle.emdf_records.proofs.payload_at as step
 use Rattle.emdf_records.proofs.payload_at.Symbol as step-def
 use Rattle.emdf_records.proofs.payload_at.Symbol.{name as #emdf-records·payload-at}
@@ -191,7 +191,7 @@ module _ {M : Type 1} (𝓤 : URA M) (H : Heap 𝓤) (A : Atoms 𝓤) (W : Given
   Nearer-wf : WellFounded Nearer
   Nearer-wf = InvImage·wf (λ (i : St). planning .count - i .k) (Nat·lt-wfRel .wf)
 
-  module _ (𝓣 : Tables 𝓤 H) (known-plan : Triple 𝓤 (𝓣 .C #emdf-records·plan-records) (PlanAt 𝓤 H A mem run)) (known-step : Triple 𝓤 (𝓣 .C #emdf-records·payload-at) (StepAt 𝓤 H A mem run)) where
+  module _ (𝓣 : Tables 𝓤 H) (known-plan : Triple 𝓤 (𝓣 .C #emdf-records-plan·plan-records) (PlanAt 𝓤 H A mem run)) (known-step : Triple 𝓤 (𝓣 .C #emdf-records·payload-at) (StepAt 𝓤 H A mem run)) where
     abbrev C : Calls 𝓤 H
     C = 𝓣 .C
 
@@ -313,7 +313,7 @@ module _ {M : Type 1} (𝓤 : URA M) (H : Heap 𝓤) (A : Atoms 𝓤) (W : Given
         keep ! (4 ∷ 5 ∷ 6 ∷ 7 ∷ 0 ∷ 3 ∷ 8 ∷ 9 ∷ 10 ∷ 11 ∷ 12 ∷ 13 ∷ 14 ∷ 15 ∷ 16 ∷ 17 ∷ 18 ∷ 19 ∷ 20 ∷ 21 ∷ 22 ∷ 23 ∷ 24 ∷ 25 ∷ 26 ∷ 27 ∷ 28 ∷ 29 ∷ 30 ∷ 31 ∷ 32 ∷ 33 ∷ []) $
         filling l₀ l₁ l₂ l₃ l₄ l₅ l₆ l₇ l₈ l₉ l₁₀ l₁₁ l₁₂ (plan-answer planning u is) (plan-first planning u is))))))))))))))))))
 
-module _ {M : Type 1} (𝓤 : URA M) (H : Heap 𝓤) (A : Atoms 𝓤) (W : Given 𝓤 H A) (mem : Memory → SProp 𝓤) (run : Routine → Fun 𝓤) (𝓣 : Tables 𝓤 H) (known-plan : Triple 𝓤 (𝓣 .C #emdf-records·plan-records) (PlanAt 𝓤 H A mem run)) (known-step : Triple 𝓤 (𝓣 .C #emdf-records·payload-at) (StepAt 𝓤 H A mem run)) where
+module _ {M : Type 1} (𝓤 : URA M) (H : Heap 𝓤) (A : Atoms 𝓤) (W : Given 𝓤 H A) (mem : Memory → SProp 𝓤) (run : Routine → Fun 𝓤) (𝓣 : Tables 𝓤 H) (known-plan : Triple 𝓤 (𝓣 .C #emdf-records-plan·plan-records) (PlanAt 𝓤 H A mem run)) (known-step : Triple 𝓤 (𝓣 .C #emdf-records·payload-at) (StepAt 𝓤 H A mem run)) where
   parse-walks : Walks 𝓤 H A parse.ended stayed (WpFn 𝓤 H (𝓣 .C) (𝓣 .Λ) code.function) (parse.clauses 𝓤 H A mem run)
   parse-walks = walked 𝓤 H A parse.ended stayed (parse.clauses 𝓤 H A mem run) (WpFn 𝓤 H (𝓣 .C) (𝓣 .Λ) code.function)
       (λ κs. (slice-vals, (slice-vals, tt))) (λ κs. (shr-slice-tells (named 0) (κs .0) u8, (mut-slice-tells (named 1) (κs .1 .0) Record, tt)))
@@ -331,5 +331,5 @@ parse-emdf-sync-with-bit-trace-spec 𝓤 H 𝓜 𝓖 𝓡 =
     entered 𝓤 H (tripleOf 𝓤 H (𝓖 .A) parse.signature (parse.spec 𝓤 H (𝓖 .A) (𝓜 .mem) (𝓡 .run)))
     (tables 𝓤 H 𝓜 𝓡 code.env .C) (tables 𝓤 H 𝓜 𝓡 code.env .Λ) #emdf-records·parse-emdf-sync-with-bit-trace code.function (code.unfolded 𝓤 H 𝓜 𝓡)
     (parse-meets 𝓤 H (𝓖 .A) (givenOf 𝓤 H 𝓜 𝓖) (𝓜 .mem) (𝓡 .run) (tablesOf 𝓤 H 𝓜 (tables 𝓤 H 𝓜 𝓡 code.env))
-    (cited 𝓤 H (PlanAt 𝓤 H (𝓖 .A) (𝓜 .mem) (𝓡 .run)) 𝓜 𝓡 code.env #emdf-records·plan-records planner-def.routine code.calls-emdf-records·plan-records (planner-thm.met 𝓤 H 𝓜 𝓖 𝓡))
+    (cited 𝓤 H (PlanAt 𝓤 H (𝓖 .A) (𝓜 .mem) (𝓡 .run)) 𝓜 𝓡 code.env #emdf-records-plan·plan-records planner-def.routine code.calls-emdf-records-plan·plan-records (planner-thm.met 𝓤 H 𝓜 𝓖 𝓡))
     (cited 𝓤 H (StepAt 𝓤 H (𝓖 .A) (𝓜 .mem) (𝓡 .run)) 𝓜 𝓡 code.env #emdf-records·payload-at step-def.routine code.calls-emdf-records·payload-at (step-thm.met 𝓤 H 𝓜 𝓖 𝓡)))

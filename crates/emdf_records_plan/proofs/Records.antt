@@ -23,8 +23,8 @@ use Rattle.openjoc_emdf.specs.declared.OpenAnswer.the-variants as OpenAnswer
 use Rattle.emdf_payloads.specs.Payloads.{Listed, stepAt}
 use Rattle.emdf_payloads.proofs.Walk.{step-found, step-ended, step-refused}
 use Rattle.openjoc_emdf.proofs.Opening.{read-first}
-use Rattle.emdf_records.specs.Records.{recordsAnswer, noRows, rowsPlan, planOf}
-use Rattle.emdf_records.specs.declared.RecordsPlan.{RecordsPlan}
+use Rattle.emdf_records_plan.specs.Records.{recordsAnswer, noRows, rowsPlan, planOf}
+use Rattle.emdf_records_plan.specs.declared.RecordsPlan.{RecordsPlan}
 
 -- ---- the plan, by what opening the carrier answers
 

@@ -1,8 +1,8 @@
 use borrow.Author.Needs.{needs}
 use borrow.Author.Tests.{le-leb, lt-leb}
-use Rattle.emdf_records.specs.Records.{rowsPlan}
-use Rattle.emdf_records.proofs.plan_rows.Statement.{statement}
-use Rattle.emdf_records.proofs.plan_rows.Tie as tie
+use Rattle.emdf_records_plan.specs.Records.{rowsPlan}
+use Rattle.emdf_records_plan.proofs.plan_rows.Statement.{statement}
+use Rattle.emdf_records_plan.proofs.plan_rows.Tie as tie
 
 no-rows-requires : tie.Need-no-rows-requires
 no-rows-requires c κs = search needs

@@ -11,9 +11,9 @@ use Rattle.emdf_format.specs.declared.RecordsError.{RecordsError}
 use Rattle.emdf_format.specs.declared.RecordsError.the-variants as RecordsError
 use Rattle.openjoc_emdf.specs.Answers.{parsedEmdf, firstPayload}
 use Rattle.openjoc_emdf.specs.declared.ParsedEmdf.{ParsedEmdf}
-use Rattle.emdf_records.specs.declared.RecordsAnswer.{RecordsAnswer}
-use Rattle.emdf_records.specs.declared.RecordsAnswer.the-variants as RecordsAnswer
-use Rattle.emdf_records.specs.declared.RecordsPlan.{RecordsPlan}
+use Rattle.emdf_records_plan.specs.declared.RecordsAnswer.{RecordsAnswer}
+use Rattle.emdf_records_plan.specs.declared.RecordsAnswer.the-variants as RecordsAnswer
+use Rattle.emdf_records_plan.specs.declared.RecordsPlan.{RecordsPlan}
 
 unfoldable pub recordsAnswer : Records → RecordsAnswer
 recordsAnswer (recorded n c) = RecordsAnswer.Parsed (parsedEmdf n c)

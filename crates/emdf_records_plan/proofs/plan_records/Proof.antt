@@ -1,8 +1,8 @@
 use borrow.Author.Needs.{needs}
 use mathlib.Core.Path.{sym, _∙_}
-use Rattle.emdf_records.proofs.Records.{opened, refused}
-use Rattle.emdf_records.proofs.plan_records.Statement.{statement}
-use Rattle.emdf_records.proofs.plan_records.Tie as tie
+use Rattle.emdf_records_plan.proofs.Records.{opened, refused}
+use Rattle.emdf_records_plan.proofs.plan_records.Statement.{statement}
+use Rattle.emdf_records_plan.proofs.plan_records.Tie as tie
 
 open-carrier-requires : tie.Need-open-carrier-requires
 open-carrier-requires c κs = search needs
