@@ -1,4 +1,4 @@
-"""The files that emdf is asked about: document 01's carriers, and carriers that are written by its rules."""
+"""The files that emdf is asked about: the scope's carriers, and carriers that are written by its rules."""
 import itertools
 import random
 
@@ -48,7 +48,7 @@ LONG = {"size-%d" % size: Carrier([(1, DISCARD, bytes(size))]) for size in (255,
     "zeros-65539": Unread(bytes(65539), 2, 0),
 }
 
-# Where document 01 prints the bytes, what was written has to be them.
+# Where the scope prints the bytes, what was written has to be them.
 assert SMALL["a"].data == bytes.fromhex("58380003001294")
 assert SMALL["b"].data == bytes.fromhex("58380007004202c3025280")
 assert SMALL["b-empty-body"].data == bytes.fromhex("58380006004200025280")

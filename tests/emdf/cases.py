@@ -1,4 +1,4 @@
-"""Runs emdf, by the command that is named, over every case, and compares what it prints and leaves with document 01's models,
+"""Runs emdf, by the command that is named, over every case, and compares what it prints and leaves with the scope's models,
 with its man page, and with answers that are typed by hand. `whole` runs all, `thinned` leaves out most of what differs in
 numbers alone and the heaviest files, `few` runs small cases of every kind."""
 import sys

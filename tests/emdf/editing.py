@@ -100,7 +100,7 @@ def blank_case(name, key, primary, secondary):
     return case(name, words + ["-o", "out"], left={"out": after.carrier()})
 
 
-# ---- document 01
+# ---- the scope
 
 
 def by_hand():

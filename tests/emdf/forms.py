@@ -1,4 +1,4 @@
-"""What emdf is to say of a file, by its man page and document 01. Spans come from the writer that wrote the carrier, verdicts
+"""What emdf is to say of a file, by its man page and the scope. Spans come from the writer that wrote the carrier, verdicts
 from the model of the profile, refusals are stated with the files that meet them."""
 from models.profile import FIELDS, found, marks_word, verdict
 from models.refused import HEXADECIMAL, WORDS

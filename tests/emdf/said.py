@@ -1,5 +1,5 @@
 """emdf info and emdf verdict on many files in one run, each file's lines compared with forms.py; and answers worked out by
-hand from document 01."""
+hand from the scope."""
 import json
 import re
 import tempfile
@@ -86,7 +86,7 @@ def alone(files):
         yield case("info alone: " + name, ["info", "-"], stdin=file.data, out=text, status=file.info_status)
 
 
-# ---- worked out by hand from document 01
+# ---- worked out by hand from the scope
 
 INFO_OF_A = b"""a: parsed: one carrier of 7 bytes
   container: 7 bytes, key id 0, 0 payloads, primary protection a5, secondary protection none, 2 bits of padding

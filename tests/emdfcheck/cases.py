@@ -1,4 +1,4 @@
-"""Runs the program that is named on every case, and compares what it prints with what document 01 says."""
+"""Runs the program that is named on every case, and compares what it prints with what the scope says."""
 import os
 import random
 import subprocess
@@ -58,7 +58,7 @@ def random_carrier(rng):
     return carrier(key, payloads, random_bytes(rng, [1, 4, 16]), random_bytes(rng, [0, 1, 4, 16]))
 
 
-# ---- document 01's carriers
+# ---- the scope's carriers
 
 A = bytes.fromhex("58380003001294")
 B = bytes.fromhex("58380007004202c3025280")

@@ -38,7 +38,7 @@ struct request {
 struct facts {
     const char *name;
     size_t answer;
-    uint32_t numbers; /* bit n is set where the call can return n by document 01 */
+    uint32_t numbers; /* bit n is set where the call can return n by the scope */
     int has_room, has_carrier;
 };
 
@@ -54,7 +54,7 @@ size_t needed_bytes(enum call call, const uint8_t *answer);
 /* How many bytes of the room an accepted call fills. */
 size_t filled_bytes(enum call call, const uint8_t *answer);
 
-/* How many pairs of a call and a number there are by document 01. */
+/* How many pairs of a call and a number there are by the scope. */
 unsigned outcomes_in_all(void);
 
 #endif

@@ -43,7 +43,7 @@ static void put_pair(uint8_t *settings, size_t i, int is_present, uint64_t value
     emdf_set_word(settings, i + 1, is_present ? value : 0);
 }
 
-/* Presences by document 01's settings rule, so that most settings are writable. */
+/* Presences by the scope's settings rule, so that most settings are writable. */
 static void ruled_settings(const struct input *in, uint8_t *s)
 {
     uint8_t present = in->bytes[AT_PRESENT], values = in->bytes[AT_VALUES];

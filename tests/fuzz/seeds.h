@@ -1,4 +1,4 @@
-/* Carriers to begin with: document 01's, and some that the library writes from a blank one. */
+/* Carriers to begin with: the scope's, and some that the library writes from a blank one. */
 #ifndef SEEDS_H
 #define SEEDS_H
 

@@ -1,1 +1,1 @@
-"""Document 01's rules as plain Python. No code or table of the library or of a program is used."""
+"""The scope's rules as plain Python. No code or table of the library or of a program is used."""

@@ -1,4 +1,4 @@
-"""Document 01's six edits on plain contents. No code or table of the library is used."""
+"""The scope's six edits on plain contents. No code or table of the library is used."""
 from models.writer import Writer
 
 NAMES = ("sample_offset", "duration", "group_id", "codec", "discard", "aligned", "create", "remove", "priority", "processing")

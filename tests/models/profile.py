@@ -1,4 +1,4 @@
-"""Document 01's profile: the verdict on payloads, by their ids and settings. No code of the library is used."""
+"""The scope's profile: the verdict on payloads, by their ids and settings. No code of the library is used."""
 from collections import namedtuple
 
 # The ten settings in their order: name here, name in emdf.h, and what table 56 wants.

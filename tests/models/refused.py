@@ -1,4 +1,4 @@
-"""Document 01's refusals: their words, the names of the figures that it has in brackets, and carriers that meet them."""
+"""The scope's refusals: their words, the names of the figures that it has in brackets, and carriers that meet them."""
 from models.profile import WANTED
 from models.writer import DISCARD, Writer
 

@@ -1,4 +1,4 @@
-"""Carriers, written bit by bit from document 01's rules. No code or table of the library is used."""
+"""Carriers, written bit by bit from the scope's rules. No code or table of the library is used."""
 
 
 class Writer:

@@ -1,4 +1,4 @@
-"""What the panel is to answer of a file, by document 01. No code of the library or of the panel is used: spans come from
+"""What the panel is to answer of a file, by the scope. No code of the library or of the panel is used: spans come from
 the writer that wrote the carrier, verdicts from the model of the profile, refusals are stated with the carriers that meet them."""
 from models.profile import FIELDS, found, marks_word, verdict
 from models.refused import HEXADECIMAL, WORDS

@@ -1,4 +1,4 @@
-"""The files that sessions load: document 01's carriers, and carriers that are written by its rules."""
+"""The files that sessions load: the scope's carriers, and carriers that are written by its rules."""
 import random
 
 from answers import Carrier, Unread
@@ -15,7 +15,7 @@ LONGEST_BODY = bytes(i % 251 for i in range((8 * 65535 - 50) // 8))
 MOST_PAYLOADS = (8 * 65535 - 22) // 19
 
 FILES = {
-    # Document 01's own, with the answers that it gives.
+    # The scope's own, with the answers that it gives.
     "a": Carrier([]),
     "b": Carrier([(1, DISCARD, b"\xc3")]),
     "b-empty-body": Carrier([(1, DISCARD, b"")]),
@@ -40,7 +40,7 @@ FILES = {
 # Each refusal that a carrier can meet.
 FILES |= {name: Unread(*of_file) for name, of_file in UNREAD.items()}
 
-# Where document 01 prints the bytes, what was written has to be them.
+# Where the scope prints the bytes, what was written has to be them.
 assert FILES["a"].data == A
 assert FILES["b"].data == bytes.fromhex("58380007004202c3025280")
 assert FILES["b-empty-body"].data == bytes.fromhex("58380006004200025280")

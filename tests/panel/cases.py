@@ -1,7 +1,7 @@
 """Runs sessions through the panel and compares the answers. The arguments are a title, how much is run (few: no long carrier;
 whole; long: the carrier of 27,592 payloads shown too) and the panel's command. Answers are compared with
-- the *.expected file beside each *.session, which is typed by hand for document-01 and commands, and
-- document 01 by answers.py, for each session that only loads files and asks of them; the stored files have to agree with it.
+- the *.expected file beside each *.session, which is typed by hand for scope and commands, and
+- the scope by answers.py, for each session that only loads files and asks of them; the stored files have to agree with it.
 With --write it writes the *.expected files that aren't typed by hand from answers.py; never from what a panel says."""
 import os
 import pathlib
@@ -14,9 +14,9 @@ from answers import answers, status_of
 from carriers import FILES, TOO_LONG, random_carrier
 
 HERE = pathlib.Path(__file__).resolve().parent
-# About the panel itself and not about carriers, so document 01 has no answers.
+# About the panel itself and not about carriers, so the scope has no answers.
 BY_HAND_ALONE = {"commands"}
-BY_HAND = {"commands", "document-01"}
+BY_HAND = {"commands", "scope"}
 # A line as long as the panel takes it: 4,095 bytes and 32.
 LONGEST_LINE = "# " + "x" * 4125
 
@@ -41,7 +41,7 @@ def sessions(files, size):
             continue
         yield name, session, path.read_text()
         if name not in BY_HAND_ALONE:
-            yield name + ", by document 01", session, answers(session, files)
+            yield name + ", by the scope", session, answers(session, files)
     for name in SHOWN[size]:
         yield name + ", whole", ask_all([name]), answers(ask_all([name]), files)
     chosen = [name for name in files if name.startswith("random")]

@@ -287,7 +287,7 @@ static void measure_all(void)
     is_stepped = 0;
     measure_named("512 payloads", 512, 3, 0);
     measure_named("a body of 60,000 bytes", 1, 60000, 0);
-    present_name = "document 01's carriers and written ones";
+    present_name = "the scope's carriers and written ones";
     seed_carriers(measure_carrier, NULL);
     present_name = "changed inputs";
     measure_changed(20000);

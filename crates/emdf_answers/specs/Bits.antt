@@ -45,7 +45,7 @@ figured n fs = record { number = n; first = getD fs 0 0; second = getD fs 1 0 }
 abbrev pub accepted : BitCursor → ℕ → BitReply
 accepted c v = numbered c 0 v 0
 
--- refused: document 01's number and figures, and the cursor as it was
+-- refused: the scope's number and figures, and the cursor as it was
 unfoldable pub refusal : BitCursor → BitError → BitReply
 refusal c why = numbered c (number why) (getD (figures why) 0 0) (getD (figures why) 1 0)
 

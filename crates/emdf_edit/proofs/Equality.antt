@@ -1,4 +1,4 @@
--- The equality of carriers, of the calls: document 01's demand 3. Assumes nothing.
+-- The equality of carriers, of the calls: the scope's claim of whole lists. Assumes nothing.
 use mathlib.Core.Path.{_≡_, refl, _∙_}
 use mathlib.Core.List.{List}
 use Prim.Native.Nat.{ℕ}

@@ -1,4 +1,4 @@
--- What is claimed of whole lists of calls: document 01's demand 3. Assumes nothing.
+-- What the scope claims of whole lists, of the calls. Assumes nothing.
 use mathlib.Core.Path.{_≡_}
 use mathlib.Core.List.{List, [], _∷_}
 use mathlib.Core.Logic.{_↔_}

@@ -1,4 +1,4 @@
--- The starred carriers of document 01, on the definitions, as one statement. Assumes nothing.
+-- The starred carriers of the scope, on the definitions, as one statement. Assumes nothing.
 use mathlib.Core.Path.{_≡_, refl}
 use mathlib.Core.Bool.{true, false}
 use mathlib.Core.List.{List, [], _∷_, _++_}

@@ -25,7 +25,7 @@ use Rattle.emdf_format.specs.declared.PayloadRecord.{PayloadRecord}
 use Rattle.emdf_format.specs.Contents.{_&_}
 use Rattle.emdf_format.specs.Reading.{Found, Container, Reading, accepted, refusal, reading}
 
--- ---- a refusal's number in document 01, and its figures
+-- ---- a refusal's number in the scope, and its figures
 
 abbrev pub number : EmdfError → ℕ
 number (TruncatedContainer declared available) = 1

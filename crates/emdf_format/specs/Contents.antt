@@ -11,7 +11,7 @@ use Rattle.emdf_format.specs.declared.Optional.the-variants.{Absent, Pre
 use Rattle.emdf_format.specs.declared.EmdfPayloadConfig.{EmdfPayloadConfig}
 use Rattle.emdf_format.specs.Syntax.{_⨟_, variableField, groups, escape, extendedField, octetBits, flaggedField, presentField}
 
--- ---- contents: document 01, 'Contents and the six edits'
+-- ---- contents: the scope, 'Contents and edits'
 
 pub record Payload : Type 0 where
   pub id : ℕ

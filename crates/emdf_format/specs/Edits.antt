@@ -16,7 +16,7 @@ use Rattle.emdf_format.specs.Contents.{Payload, Contents, writable, decl
 use Rattle.emdf_format.specs.Reading.{Container, Reading, accepted, refusal, reading, contentsOf}
 use Rattle.emdf_format.specs.Calls.{recorded, inTable, BodiesAtSpans}
 
--- the steps of document 01, with their arguments; places count from 0
+-- the steps of the scope, with their arguments; places count from 0
 pub data Edit : Type 0 where
   bodyEdit : ℕ → List ℕ → Edit
   settingsEdit : ℕ → EmdfPayloadConfig → Edit
@@ -149,7 +149,7 @@ plainAnswers c (t ∷ ts) =
     let o : Stepped = step (t .edit) (length (t .destination)) c in
     stepAnswer o ∷ plainAnswers (stepContents o c) ts
 
--- ---- what is claimed of whole lists: document 01's demand 3
+-- ---- what the scope claims of whole lists
 
 -- bytes are bytes: so is what every slice holds
 abbrev pub Bytes : List ℕ → Type 0

@@ -1,4 +1,4 @@
--- The reading of a carrier: Annex H's tables in order, with document 01's questions 1 to 12 each in its place. Assumes nothing.
+-- The reading of a carrier: Annex H's tables in order, with the scope's questions 1 to 12 each in its place. Assumes nothing.
 use mathlib.Core.Bool.{false, not}
 use mathlib.Core.List.{List, [], _∷_}
 use Prim.Native.Nat.{ℕ, zero, suc, _+_, _-_, _*_}

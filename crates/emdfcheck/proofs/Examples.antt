@@ -1,4 +1,4 @@
--- Document 01's carriers, and what is printed for them. Assumes nothing.
+-- The scope's carriers, and what is printed for them. Assumes nothing.
 use mathlib.Core.Path.{_≡_, refl}
 use mathlib.Core.List.{List, [], _∷_, _++_}
 use Prim.Native.Nat.{ℕ}

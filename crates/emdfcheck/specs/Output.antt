@@ -1,4 +1,4 @@
--- What the program prints for the bytes of its input: the lines of document 01. Assumes nothing.
+-- What the program prints for the bytes of its input: the lines of the scope. Assumes nothing.
 use Prim.Native.Nat.{ℕ}
 use mathlib.Core.List.{List, [], _∷_, _++_}
 use lib.ListN.{length}

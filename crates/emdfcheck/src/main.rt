@@ -1,5 +1,5 @@
 // Prints what carrier standard input is: its class and, of a carrier that is read, each payload's id and where its parts
-// stand. The lines are document 01's.
+// stand. The lines are the scope's.
 ghost use Prim.Native.Nat.{_+_, _≤_};
 ghost use mathlib.Core.Path.{_≡_};
 ghost use lib.ListN.{length, take};
@@ -149,7 +149,7 @@ fn put_record(out: &mut [u8], at: usize, payload: PayloadRecord) -> usize
     emdf_text::put_line(out, end, b"", &offsets)
 }
 
-// A refusal's number in document 01.
+// A refusal's number in the scope.
 fn error_number(why: EmdfError) -> u64
     ensures { λ r. ⌜ r ≡ number why ⌝ }
 {

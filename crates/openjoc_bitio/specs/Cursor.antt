@@ -1,4 +1,4 @@
--- What each call at a cursor answers: document 01, 'Bits', and its questions 3 and 4. Assumes nothing.
+-- What each call at a cursor answers: the scope, 'Bits', and its questions 3 and 4. Assumes nothing.
 use Prim.Native.Nat.{ℕ, _+_, _-_, _*_, _%_, _^_}
 use mathlib.Core.List.{List, [], _∷_}
 use mathlib.Core.Bool.{not}
@@ -67,7 +67,7 @@ byteAlign s c =
     then AlignAnswer.Aligned (past c (toByte (c .position)))
     else AlignAnswer.Refused (EndOfInput (toByte (c .position)) (bitsRemaining s c))
 
--- document 01's number for a refusal, and its figures
+-- the scope's number for a refusal, and its figures
 abbrev pub number : BitError → ℕ
 number (EndOfInput n r) = 3
 number (InvalidWidth w) = 4

@@ -30,10 +30,10 @@ pub const HEADER: usize = 4;
 /// The most that a declared length can say.
 pub const MOST_DECLARED: usize = 65_535;
 
-/// 01's carrier without a payload.
+/// The scope's carrier without a payload.
 pub const A: [u8; 7] = [0x58, 0x38, 0x00, 0x03, 0x00, 0x12, 0x94];
 
-/// 01's carrier with a body of one byte.
+/// The scope's carrier with a body of one byte.
 pub const B: [u8; 11] = [
     0x58, 0x38, 0x00, 0x07, 0x00, 0x42, 0x02, 0xc3, 0x02, 0x52, 0x80,
 ];
@@ -231,7 +231,7 @@ fn row(payload: &Payload, spans: &Spans) -> [u64; ROW_WORDS] {
     words
 }
 
-/// Presence and value of each setting in 01's order, the two flags without a presence.
+/// Presence and value of each setting in the scope's order, the two flags without a presence.
 #[must_use]
 pub fn settings(settings: &Settings) -> [u64; SETTINGS_WORDS] {
     let pair = |setting: Option<u64>| [u64::from(setting.is_some()), setting.unwrap_or(0)];

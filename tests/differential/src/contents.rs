@@ -1,9 +1,9 @@
-//! A carrier's contents, and the bits that document 01 writes for them.
+//! A carrier's contents, and the bits that the scope writes for them.
 
 use crate::carrier::{Found, Spans, HEADER, SYNC_WORD};
 use crate::written::Written;
 
-/// The ten settings of a payload, in 01's order.
+/// The ten settings of a payload, in the scope's order.
 #[derive(Clone, Copy, Debug, Default, Eq, PartialEq)]
 pub struct Settings {
     pub sample_offset: Option<u64>,

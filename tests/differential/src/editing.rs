@@ -146,7 +146,7 @@ impl<'a> Right<'a> {
         };
         right.carrier = right.after(usize::MAX).map(|after| {
             let (carrier, _) = after.written();
-            assert_eq!(carrier.len(), plain::length(&after), "01's bits formula");
+            assert_eq!(carrier.len(), plain::length(&after), "the scope's bits formula");
             carrier
         });
         right

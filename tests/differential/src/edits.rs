@@ -205,7 +205,7 @@ fn every_shape(tally: &mut Tally, random: &mut Random, length: Length) -> Result
     Ok(())
 }
 
-/// 01's own edits, with the carriers that it names.
+/// The scope's own edits, with the carriers that it names.
 fn edits_of_b(editor: &mut Editor, tally: &mut Tally) -> Result<(), Difference> {
     let empty = Step::Body {
         place: 0,
@@ -215,7 +215,7 @@ fn edits_of_b(editor: &mut Editor, tally: &mut Tally) -> Result<(), Difference> 
     for (step, carrier) in named {
         let source = Source::new(B.to_vec());
         let (_, left) = editor.check_once(&source, &step, carrier.len(), tally)?;
-        assert_eq!(left.as_deref(), Some(carrier), "01's carrier");
+        assert_eq!(left.as_deref(), Some(carrier), "the scope's carrier");
     }
     Ok(())
 }

@@ -90,7 +90,7 @@ impl Examiner {
         Err(breaks_the_rule(bytes, ask, &said))
     }
 
-    /// The verdicts on a carrier; 01's profile, on what the original reads, gives them too.
+    /// The verdicts on a carrier; the scope's profile, on what the original reads, gives them too.
     ///
     /// # Errors
     ///

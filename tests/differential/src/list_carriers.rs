@@ -13,7 +13,7 @@ use differential::wrong;
 use std::fmt::Write as _;
 use std::process::ExitCode;
 
-/// The carriers that document 01 and docs/DIFFERENCES.md name.
+/// The carriers that the scope and docs/DIFFERENCES.md name.
 const NAMED: [&[u8]; 19] = [
     &A,
     &B,

@@ -1,4 +1,4 @@
-//! Edits for which several of document 01's questions are answered no at once.
+//! Edits for which several of the scope's questions are answered no at once.
 
 use crate::carrier::{
     BYTES_AFTER, DESTINATION_TOO_SHORT, MOST_DECLARED, NOT_WRITABLE, NO_SUCH_PLACE, NO_SYNC_WORD,

@@ -1,4 +1,4 @@
-//! Plain contents by document 01: what is writable, the bits it needs, and the answer to each edit.
+//! Plain contents by the scope: what is writable, the bits it needs, and the answer to each edit.
 
 use crate::carrier::{
     self, Reading, Refusal, Reply, BYTES_AFTER, DESTINATION_TOO_SHORT, HEADER, MOST_DECLARED,
@@ -209,7 +209,7 @@ pub fn declared(contents: &Contents) -> usize {
     bits_needed(contents).div_ceil(8)
 }
 
-/// 01's formula; it counts what can't be written too.
+/// The scope's formula; it counts what can't be written too.
 #[must_use]
 pub fn bits_needed(contents: &Contents) -> usize {
     let payloads: usize = contents.payloads.iter().map(payload_bits).sum();

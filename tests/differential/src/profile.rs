@@ -1,4 +1,4 @@
-//! The profile of document 01, from contents alone: wanted settings, marks and verdicts.
+//! The profile of the scope, from contents alone: wanted settings, marks and verdicts.
 
 use crate::carrier::{Reading, Reply, NOT_ONE_OF_EACH, PROFILE_NOT_MET};
 use crate::contents::{Contents, Settings};
@@ -42,7 +42,7 @@ pub const SETTINGS_MARKS: u32 = 10;
 /// All marks.
 pub const MARKS: u32 = 21;
 
-/// 01's verdict on what a reading found, or was refused with.
+/// The scope's verdict on what a reading found, or was refused with.
 #[must_use]
 pub fn verdict(reading: &Reading, profile: u32) -> Reply {
     match reading {

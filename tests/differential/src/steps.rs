@@ -9,7 +9,7 @@ use crate::shapes::{
 };
 use std::iter;
 
-/// The edits, in the order of 01.
+/// The edits, in the scope's order.
 pub const KINDS: usize = 6;
 
 /// The most that a protection's length is tried with, one past the longest that there is.

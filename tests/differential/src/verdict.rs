@@ -72,7 +72,7 @@ fn place(container: &EmdfContainer, payload: &EmdfPayload) -> u64 {
 fn word(deviations: &[JocProfileDeviation]) -> u32 {
     deviations.iter().fold(0, |word, deviation| {
         let mark = 1 << mark(deviation);
-        assert!(word < mark, "deviations not in 01's order: {deviations:?}");
+        assert!(word < mark, "deviations not in the scope's order: {deviations:?}");
         word | mark
     })
 }

@@ -1,4 +1,4 @@
-//! Variable fields written by document 01's rule, and the answers that it gives to them.
+//! Variable fields written by the scope's rule, and the answers that it gives to them.
 
 use crate::case::{Answer, Cursor};
 

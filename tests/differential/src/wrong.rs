@@ -1,4 +1,4 @@
-//! Carriers with one thing wrong, and the refusals that document 01 has for them.
+//! Carriers with one thing wrong, and the refusals that the scope has for them.
 
 use crate::carrier::{
     Found, Refusal, HEADER, MOST_DECLARED, NO_PRIMARY, NO_SYNC_WORD, PADDING_NOT_ZERO,
@@ -18,7 +18,7 @@ const MOST_IN_GROUPS: u128 = MOST_GROUP_ID as u128;
 /// The most that two groups of width 8 can say.
 const MOST_SIZE: u128 = 256 + 65_536 - 1;
 
-/// A carrier and the refusal that 01 has for it.
+/// A carrier and the refusal that the scope has for it.
 pub struct Wrong {
     pub carrier: Vec<u8>,
     pub refusal: Refusal,
