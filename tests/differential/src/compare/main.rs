@@ -15,6 +15,7 @@ mod guard;
 mod judge;
 mod lent;
 mod library;
+#[path = "../model/model.rs"]
 mod model;
 mod reached;
 mod report;

@@ -4,6 +4,7 @@ mod aims;
 mod calls;
 mod clock;
 mod counts;
+#[path = "../compare/exported.rs"]
 mod exported;
 mod subjects;
 
