@@ -18,7 +18,7 @@ static int say_refused(const char *about, uint32_t number, const uint8_t *answer
 int command_body(char **words)
 {
     static struct input input;
-    static uint8_t scratch[DECLARED_MOST]; /* a body lies in the declared bytes */
+    static uint8_t scratch[BODY_MOST];
     uint8_t answer[EMDF_MOVE_ANSWER];
     const char *out;
     uint64_t place, start;

@@ -41,7 +41,7 @@ const uint8_t *settings_at(const struct reading *reading, size_t place)
 void read_carrier(const struct input *input, struct reading *reading)
 {
     /* Filled by emdf_read alone, and read only as far as it filled it. */
-    static uint8_t table[(size_t)PAYLOADS_MOST * EMDF_ROW];
+    static uint8_t table[(size_t)EMDF_PAYLOADS_MOST * EMDF_ROW];
     uint64_t protections;
     reading->number = emdf_read(input->bytes, input->length, table, sizeof table, reading->answer);
     reading->rows = table;

@@ -48,11 +48,11 @@ static int parse_body(struct edit *edit, const char *text)
     free(edit->octets.bytes);
     if (*text != '@')
         return parse_hex(text, &edit->octets) ? 1 : wants(edit, "a body: pairs of hexadecimal digits, - for none, or @FILE");
-    edit->octets.bytes = (uint8_t *)malloc(BODY_TOO_LONG);
+    edit->octets.bytes = (uint8_t *)malloc(BODY_MOST + 1);
     if (!edit->octets.bytes)
         return complain(NULL, "out of memory"), 0;
     /* More than this isn't needed: the library refuses it at any length. */
-    return load_file(text + 1, edit->octets.bytes, BODY_TOO_LONG, 1, &edit->octets.length);
+    return load_file(text + 1, edit->octets.bytes, BODY_MOST + 1, 1, &edit->octets.length);
 }
 
 /* A word "name=value" of a setting, or from=bare, from=profile. */

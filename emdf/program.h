@@ -17,13 +17,9 @@ enum {
 #define PROTECTION_HINT "; primary has 1, 4 or 16 bytes, secondary 0, 1, 4 or 16"
 
 enum {
-    /* A carrier is 4 bytes and then the declared ones, which a number of 16 bits counts. */
-    DECLARED_MOST = 65535,
-    CARRIER_MOST = 4 + DECLARED_MOST,
-    /* No carrier has a body of so many bytes. */
-    BODY_TOO_LONG = DECLARED_MOST + 1,
-    /* 22 bits besides the payloads, and at least 19 for each: id 5, the settings' five flags, size 9. */
-    PAYLOADS_MOST = (8 * DECLARED_MOST - 22) / 19,
+    CARRIER_MOST = EMDF_CARRIER_MOST,
+    /* A body lies in the declared bytes, which follow the first 4; no carrier has a longer one. */
+    BODY_MOST = CARRIER_MOST - 4,
     BODY_BYTES_SHOWN = 16
 };
 

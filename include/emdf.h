@@ -37,12 +37,17 @@ enum {
     EMDF_TRAILING_BYTES = 20      /* of an edit: the source is more than one carrier */
 };
 
+/* The most bytes that a carrier has, and the most payloads: buffers of these sizes are long enough for every carrier. */
+#define EMDF_CARRIER_MOST 65539
+#define EMDF_PAYLOADS_MOST 27592
+
 /* The size in bytes of a bit or field call's answer, and where its six numbers stand (see emdf_word). */
 #define EMDF_BIT_ANSWER 48
 enum {
     EMDF_VALUE = 0,           /* the value read, or a refusal's first figure */
     EMDF_SECOND_FIGURE = 1,   /* a refusal's second figure, or 0 */
-    EMDF_POSITION = 2,        /* the cursor after the call; where it was if refused */
+    EMDF_POSITION = 2,        /* the cursor after the call: where it was if refused, but after emdf_variable_bits past the last
+                                 bit that was read */
     EMDF_END = 3,
     EMDF_WINDOW_POSITION = 4, /* the window of emdf_take_bits, else 0 */
     EMDF_WINDOW_END = 5

@@ -13,17 +13,6 @@
 #include "emdf_names.h"
 
 enum {
-    /* A carrier is 4 bytes and then the declared ones, which a number of 16 bits counts. */
-    DECLARED_MOST = 65535,
-    CARRIER_MOST = 4 + DECLARED_MOST,
-
-    /* What every carrier has besides: version 2, key id 3, end mark 5, protection codes 4, primary protection 8. */
-    FRAME_BITS_LEAST = 2 + 3 + 5 + 4 + 8,
-    /* The smallest payload: id 5, the settings' five flags, size 9, and no body. */
-    PAYLOAD_BITS_LEAST = 5 + 5 + 9,
-    /* 27,592. So a table of this many rows, some 6 MB, is long enough for every carrier. */
-    PAYLOADS_MOST = (8 * DECLARED_MOST - FRAME_BITS_LEAST) / PAYLOAD_BITS_LEAST,
-
     /* Linux takes paths of up to 4,095 bytes; a key and blanks stand before them. */
     LINE_MOST = 4095 + 32,
 
@@ -36,7 +25,7 @@ enum {
 enum { FINE, REFUSED, FAILED };
 
 struct panel {
-    uint8_t file[CARRIER_MOST + 1]; /* the byte more tells a file that is too long */
+    uint8_t file[EMDF_CARRIER_MOST + 1]; /* the byte more tells a file that is too long */
     size_t length;
     int is_loaded, is_ended, status;
     uint32_t profile;
@@ -44,7 +33,7 @@ struct panel {
 };
 
 /* Rows are filled by emdf_read alone, and read only as far as it filled them. */
-static uint8_t table[(size_t)PAYLOADS_MOST * EMDF_ROW];
+static uint8_t table[(size_t)EMDF_PAYLOADS_MOST * EMDF_ROW];
 
 static void raise_status(struct panel *panel, int status)
 {
@@ -113,7 +102,7 @@ static const char *load_file(struct panel *panel)
     panel->length = fread(panel->file, 1, sizeof panel->file, file);
     if (ferror(file))
         failure = strerror(errno);
-    else if (panel->length > CARRIER_MOST)
+    else if (panel->length > EMDF_CARRIER_MOST)
         failure = "longer than 65539 bytes, which no carrier is";
     fclose(file);
     return failure;

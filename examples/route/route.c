@@ -4,8 +4,8 @@
 
 #include "emdf.h"
 
-/* A carrier has at most 65,539 bytes; one byte more tells an input that is longer. */
-static uint8_t carrier[65540], rekeyed[65539];
+/* One byte more than any carrier has tells an input that is longer. */
+static uint8_t carrier[EMDF_CARRIER_MOST + 1], rekeyed[EMDF_CARRIER_MOST];
 
 static int refused(const char *what, uint32_t number, const uint8_t *answer, size_t first)
 {
