@@ -22,7 +22,8 @@ use Rattle.emdf_compact.specs.Words.{compactSettings, compactConfig, configLeng
 use Rattle.emdf_fields.proofs.Word.{Word, word-window, word-after}
 use Rattle.emdf_compact.proofs.Compact.{config-found, id-found, size-found, head-end, head-of, head-most, size-most, value-most}
 use Rattle.emdf_payloads.specs.Payloads.{nextPayload, turnFound, turnAnswer, stepAt}
-use Rattle.emdf_payloads.specs.Compact.{compactLength, compactRecord, compactStep}
+use Rattle.emdf_payloads.specs.Compact.{notCompact, compactParts, compactRecord, compactStep}
+use Rattle.emdf_payloads.specs.declared.CompactPayload.{CompactPayload}
 use Rattle.emdf_payloads.specs.declared.PayloadStep.the-variants as PayloadStep
 
 more : (k : ℕ) → eqb k 0 ≡ false → 0 < k
@@ -68,7 +69,7 @@ module _ (s : List ℕ) (c : BitCursor) where
   there : (k : ℕ) → 0 < k → k ≤ bitsRemaining s c → p + k ≤ bitLimit s e
   there k h l = omega (arith, remaining-limit s e p)
 
-  pub compact-end : eqb (top 5 x) 0 ≡ true → 5 ≤ bitsRemaining s c → stepAt s c ≡ PayloadStep.End (cursorAt e (p + 5))
+  compact-end : eqb (top 5 x) 0 ≡ true → 5 ≤ bitsRemaining s c → stepAt s c ≡ PayloadStep.End (cursorAt e (p + 5))
   unfolding nextPayload turnAnswer turnFound
   compact-end z l =
       ap (turnAnswer e)
@@ -76,7 +77,11 @@ module _ (s : List ℕ) (c : BitCursor) where
       (bind-go (extendedValue 5) _ (id-found (word-window s p) (lit≤ tt) e (lit≤ tt) (rw (eqb→eq (top 5 x) 0 (T-of z))) (there 5 (omega arith) l))
       (choose-this _ _ _ (T-of z) (give-go s e refl refl))))
 
-  compact-found : eqb (top 5 x) 0 ≡ false → 0 < headLength x → 0 < sizeLength y → n ≤ bitsRemaining s c → stepAt s c ≡ PayloadStep.Payload (compactRecord x p (headLength x) (sizeLength y) n) (cursorAt e (p + n))
+  -- all of the payload
+  abbrev payload : CompactPayload
+  payload = record { word = x; head = headLength x; size = sizeLength y; length = n }
+
+  compact-found : eqb (top 5 x) 0 ≡ false → 0 < headLength x → 0 < sizeLength y → n ≤ bitsRemaining s c → stepAt s c ≡ PayloadStep.Payload (compactRecord payload p) (cursorAt e (p + n))
   unfolding nextPayload turnAnswer turnFound
   compact-found z h k l =
       let d = head-of x z h in
@@ -88,37 +93,30 @@ module _ (s : List ℕ) (c : BitCursor) where
       (choose-that _ _ _ (T-not-of z)
       (bind-go (payloadAfter p (top 5 x)) _ (after-found w (lit≤ tt) (lit≤ tt) e p (top 5 x) (d .compact) k (omega (arith, d .length)) refl (omega arith) m) (give-go s e refl refl)))))
 
-  -- more bits than an end mark takes
-  pub compact-step : 5 < headLength x → 0 < sizeLength y → n ≤ bitsRemaining s c → stepAt s c ≡ PayloadStep.Payload (compactRecord x p (headLength x) (sizeLength y) n) (cursorAt e (p + n))
-  compact-step h k l = by-id (eqb (top 5 x) 0) refl
+  pub compact-there : {k : CompactPayload} → k ≡ compactParts s p → 0 < k .length → k .length ≤ bitsRemaining s c → stepAt s c ≡ compactStep k e p
+  unfolding compactParts compactStep
+  compact-there {k} i h l = by-head (eqb (headLength x) 0) refl (eqb (top 5 x) 0) refl (eqb (sizeLength y) 0) refl
     where
-      by-id : (t : Bool) → eqb (top 5 x) 0 ≡ t → stepAt s c ≡ PayloadStep.Payload (compactRecord x p (headLength x) (sizeLength y) n) (cursorAt e (p + n))
-      by-id true z = absurd (omega (arith, head-end x z, h))
-      by-id false z = compact-found z (omega (arith, h)) k l
-
-  pub compact-there : (k : ℕ) → k ≡ compactLength s p → 0 < k → k ≤ bitsRemaining s c → stepAt s c ≡ compactStep s e p k
-  unfolding compactLength compactStep
-  compact-there k i h l = by-head (eqb (headLength x) 0) refl (eqb (top 5 x) 0) refl (eqb (sizeLength y) 0) refl
-    where
-      by-head : (t : Bool) → eqb (headLength x) 0 ≡ t → (u : Bool) → eqb (top 5 x) 0 ≡ u → (v : Bool) → eqb (sizeLength y) 0 ≡ v → stepAt s c ≡ compactStep s e p k
-      by-head true z₁ u z₂ v z₃ = absurd (let f : compactLength s p ≡ 0 = rw z₁ in omega (arith, f, i, h))
+      by-head : (t : Bool) → eqb (headLength x) 0 ≡ t → (u : Bool) → eqb (top 5 x) 0 ≡ u → (v : Bool) → eqb (sizeLength y) 0 ≡ v → stepAt s c ≡ compactStep k e p
+      by-head true z₁ u z₂ v z₃ = absurd (let f : compactParts s p ≡ notCompact = rw z₁ in omega (arith, rw (i, f) at h))
       by-head false z₁ true z₂ v z₃ =
-          let f = head-end x z₂ in
-          let g : compactLength s p ≡ headLength x = rw (z₁, z₂) in
-          let j : k ≡ 5 = omega (arith, f, g, i) in
-          rw (z₂, j) (compact-end z₂ (omega (arith, j, l)))
-      by-head false z₁ false z₂ true z₃ = absurd (let f : compactLength s p ≡ 0 = rw (z₁, z₂, z₃) in omega (arith, f, i, h))
+          let g : compactParts s p ≡ record { word = x; head = headLength x; size = 0; length = headLength x } = rw (z₁, z₂) in
+          let f : headLength x ≡ 5 = head-end x z₂ in
+          rw (i, g, z₂, f) (compact-end z₂ (omega (arith, rw (i, g) at l, f)))
+      by-head false z₁ false z₂ true z₃ = absurd (let f : compactParts s p ≡ notCompact = rw (z₁, z₂, z₃) in omega (arith, rw (i, f) at h))
       by-head false z₁ false z₂ false z₃ =
-          let g : compactLength s p ≡ n = rw (z₁, z₂, z₃) in
-          let j : k ≡ n = i ∙ g in
-          rw (z₂, j) (compact-found z₂ (more (headLength x) z₁) (more (sizeLength y) z₃) (omega (arith, j, l)))
+          let g : compactParts s p ≡ payload = rw (z₁, z₂, z₃) in
+          rw (i, g, z₂) (compact-found z₂ (more (headLength x) z₁) (more (sizeLength y) z₃) (rw (i, g) at l))
 
-  pub length-most : compactLength s p < 2 ^ 32
-  unfolding compactLength
-  length-most = go (eqb (headLength x) 0) (eqb (top 5 x) 0) (eqb (sizeLength y) 0)
+  abbrev chosen : Bool → Bool → Bool → CompactPayload
+  chosen t u v = if t then notCompact else (if u then record { word = x; head = headLength x; size = 0; length = headLength x } else (if v then notCompact else payload))
+
+  pub parts-most : (compactParts s p .head < 2 ^ 7) × (compactParts s p .size < 2 ^ 7) × (compactParts s p .length < 2 ^ 32)
+  unfolding compactParts
+  parts-most = go (eqb (headLength x) 0) (eqb (top 5 x) 0) (eqb (sizeLength y) 0)
     where
-      go : (t u v : Bool) → (if t then 0 else (if u then headLength x else (if v then 0 else n))) < 2 ^ 32
-      go true u v = omega arith
-      go false true v = omega (arith, head-most x)
-      go false false true = omega arith
-      go false false false = omega (arith, head-most x, size-most y, value-most y (window-range s (p + headLength x)))
+      go : (t u v : Bool) → (chosen t u v .head < 2 ^ 7) × (chosen t u v .size < 2 ^ 7) × (chosen t u v .length < 2 ^ 32)
+      go true u v = (omega arith, omega arith, omega arith)
+      go false true v = (omega (arith, head-most x), omega arith, omega (arith, head-most x))
+      go false false true = (omega arith, omega arith, omega arith)
+      go false false false = (omega (arith, head-most x), omega (arith, size-most y), omega (arith, head-most x, size-most y, value-most y (window-range s (p + headLength x))))

@@ -1,6 +1,7 @@
 -- What stands at a position, where a word holds its head and another its size: the end mark, or a compact payload. Assumes nothing.
 use mathlib.Core.List.{List}
-use Prim.Native.Nat.{ℕ, _+_, _*_}
+use mathlib.Core.Path.{_≡_}
+use Prim.Native.Nat.{ℕ, _+_, _*_, _^_, _<_}
 use lib.Dec.{eqb}
 use Rattle.openjoc_bitio.specs.Choice.{if_then_else_}
 use Rattle.openjoc_bitio.specs.Bits.{windowAt}
@@ -9,6 +10,8 @@ use Rattle.emdf_format.specs.Reading.{traceOf}
 use Rattle.emdf_format.specs.declared.PayloadRecord.{PayloadRecord}
 use Rattle.emdf_fields.specs.Word.{top, after}
 use Rattle.emdf_compact.specs.Words.{compactConfig, headLength, sizeLength, sizeValue}
+use Rattle.emdf_payloads.specs.Payloads.{stepAt}
+use Rattle.emdf_payloads.specs.declared.CompactPayload.{CompactPayload}
 use Rattle.emdf_payloads.specs.declared.PayloadStep.{PayloadStep}
 use Rattle.emdf_payloads.specs.declared.PayloadStep.the-variants as PayloadStep
 
@@ -19,29 +22,36 @@ headAt s p = windowAt s p
 abbrev pub sizeAt : List ℕ → ℕ → ℕ
 sizeAt s p = windowAt s (p + headLength (headAt s p))
 
--- how many bits a payload takes: its head, its size and its octets
-abbrev pub payloadLength : List ℕ → ℕ → ℕ
-payloadLength s p = headLength (headAt s p) + sizeLength (sizeAt s p) + sizeValue (sizeAt s p) * 8
+-- neither stands there
+abbrev pub notCompact : CompactPayload
+notCompact = record { word = 0; head = 0; size = 0; length = 0 }
 
--- how many bits the end mark or a compact payload takes; 0 where neither stands here
-unfoldable pub compactLength : List ℕ → ℕ → ℕ
-compactLength s p =
+-- the end mark or a compact payload at p: its head, its size and its octets
+unfoldable pub compactParts : List ℕ → ℕ → CompactPayload
+compactParts s p =
     if eqb (headLength (headAt s p)) 0
-    then 0
+    then notCompact
     else (if eqb (top 5 (headAt s p)) 0
-    then headLength (headAt s p)
-    else (if eqb (sizeLength (sizeAt s p)) 0 then 0 else payloadLength s p))
+    then record { word = headAt s p; head = headLength (headAt s p); size = 0; length = headLength (headAt s p) }
+    else (if eqb (sizeLength (sizeAt s p)) 0
+    then notCompact
+    else record { word = headAt s p; head = headLength (headAt s p); size = sizeLength (sizeAt s p); length = headLength (headAt s p) + sizeLength (sizeAt s p) + sizeValue (sizeAt s p) * 8 }))
 
--- what is recorded of a payload at p whose head is in x, by the bits of its head, of its size and of all of it
-abbrev pub compactRecord : ℕ → ℕ → ℕ → ℕ → ℕ → PayloadRecord
-compactRecord x p head size n = record { id = top 5 x; config = compactConfig (after 5 x); trace = traceOf p (p + 5) (p + head) (p + head + size) (p + n) }
+-- what is recorded of a compact payload at p
+abbrev pub compactRecord : CompactPayload → ℕ → PayloadRecord
+compactRecord c p = record { id = top 5 (c .word); config = compactConfig (after 5 (c .word)); trace = traceOf p (p + 5) (p + c .head) (p + c .head + c .size) (p + c .length) }
 
-abbrev pub recordAt : List ℕ → ℕ → ℕ → PayloadRecord
-recordAt s p n = compactRecord (headAt s p) p (headLength (headAt s p)) (sizeLength (sizeAt s p)) n
+-- what stands at p, before the end e
+unfoldable pub compactStep : CompactPayload → ℕ → ℕ → PayloadStep
+compactStep c e p =
+    if eqb (top 5 (c .word)) 0
+    then PayloadStep.End (cursorAt e (p + c .length))
+    else PayloadStep.Payload (compactRecord c p) (cursorAt e (p + c .length))
 
--- what stands at p, where it takes n bits before the end e
-unfoldable pub compactStep : List ℕ → ℕ → ℕ → ℕ → PayloadStep
-compactStep s e p n =
-    if eqb (top 5 (headAt s p)) 0
-    then PayloadStep.End (cursorAt e (p + n))
-    else PayloadStep.Payload (recordAt s p n) (cursorAt e (p + n))
+-- c is what stands at p, all of it before the end e, if it has any bits; and no sum of its parts is too large
+pub record CompactAt (s : List ℕ) (e p : ℕ) (c : CompactPayload) : Type 0 where
+  pub is : 0 < c .length → stepAt s (cursorAt e p) ≡ compactStep c e p
+  pub near : 0 < c .length → p < 2 ^ 61
+  pub head : c .head < 2 ^ 7
+  pub size : c .size < 2 ^ 7
+  pub fits : p + c .length < 2 ^ 64

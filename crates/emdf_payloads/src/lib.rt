@@ -7,7 +7,7 @@ ghost use Rattle.openjoc_bitio.specs.Bits.{windowAt};
 ghost use Rattle.emdf_compact.specs.Words.{compactSettings, configLength};
 ghost use Rattle.openjoc_bitio.specs.Cursor.{bitsRemaining};
 ghost use Rattle.emdf_fields.specs.Fields.{countAnswer};
-ghost use Rattle.emdf_payloads.specs.Compact.{compactLength, compactStep, recordAt};
+ghost use Rattle.emdf_payloads.specs.Compact.{CompactAt, compactParts, notCompact, compactRecord};
 ghost use Rattle.emdf_payloads.specs.Payloads.{payloadAnswer, turnAnswer, nextPayload, skipOf};
 use emdf_fields::CountAnswer;
 use emdf_fields::FieldAnswer;
@@ -31,6 +31,14 @@ pub enum SkipStep {
     Past(u64, BitCursor),
     End(BitCursor),
     Refused(EmdfError),
+}
+
+// The end mark or a compact payload: the word that holds its head, and how many bits its head, its size and all of it take.
+pub struct CompactPayload {
+    pub word: u64,
+    pub head: usize,
+    pub size: usize,
+    pub length: usize,
 }
 
 // A payload after its id, which starts at bit start: its settings, its size, and past its body.
@@ -130,18 +138,18 @@ pub fn next_payload(s: &[u8], c: BitCursor) -> PayloadStep
 {
     let position = c.position;
     let end = c.end;
-    let n = compact_there(s, position, end);
-    if n == 0 {
+    let found = compact_at(s, position, end);
+    if found.length == 0 {
         return payload_by_fields(s, BitCursor { position, end });
     }
     let next = BitCursor {
-        position: position + n,
+        position: position + found.length,
         end,
     };
-    if openjoc_bitio::window_at(s, position) >> 59 == 0 {
+    if found.word >> 59 == 0 {
         return PayloadStep::End(next);
     }
-    PayloadStep::Payload(compact_record(s, position, n), next)
+    PayloadStep::Payload(compact_record(found, position), next)
 }
 
 // Past the next payload, for a caller who wants no record of it.
@@ -150,72 +158,94 @@ pub fn skip_payload(s: &[u8], c: BitCursor) -> SkipStep
 {
     let position = c.position;
     let end = c.end;
-    let n = compact_there(s, position, end);
-    if n == 0 {
+    let found = compact_at(s, position, end);
+    if found.length == 0 {
         return skipped(payload_by_fields(s, BitCursor { position, end }));
     }
     let next = BitCursor {
-        position: position + n,
+        position: position + found.length,
         end,
     };
-    let id = openjoc_bitio::window_at(s, position) >> 59;
+    let id = found.word >> 59;
     if id == 0 {
         return SkipStep::End(next);
     }
     SkipStep::Past(id, next)
 }
 
-// How many bits the end mark or a compact payload takes that stands at a position, all of it before the end. 0 where
-// something else stands there.
-fn compact_there(s: &[u8], position: usize, end: usize) -> usize
-    ensures { λ r. ⌜ (0 < r → turnAnswer end (nextPayload (now (s .entry)) end position) ≡ compactStep (now (s .entry)) end position r) × (0 < r → position < 2 ^ 61) × (position + r < 2 ^ 64) ⌝ }
+// The end mark or a compact payload that stands at a position, all of it before the end; else no bits at all.
+pub fn compact_at(s: &[u8], position: usize, end: usize) -> CompactPayload
+    ensures { λ r. ⌜ CompactAt (now (s .entry)) end position r ⌝ }
 {
     // So that no sum of positions is too large.
     if 0x2000_0000_0000_0000 <= position {
-        return 0;
+        return not_compact();
     }
-    let n = compact_length(s, position);
-    let c = BitCursor { position, end };
-    if c.bits_remaining(s) < n {
-        return 0;
+    let found = compact_parts(s, position);
+    if (BitCursor { position, end }).bits_remaining(s) < found.length {
+        return not_compact();
     }
-    n
+    found
 }
 
 // The same wherever the end is.
-fn compact_length(s: &[u8], position: usize) -> usize
+fn compact_parts(s: &[u8], position: usize) -> CompactPayload
     requires { ⌜ position < 2 ^ 61 ⌝ }
-    ensures { λ r. ⌜ r ≡ compactLength (now (s .entry)) position ⌝ }
+    ensures { λ r. ⌜ r ≡ compactParts (now (s .entry)) position ⌝ }
 {
-    let x = openjoc_bitio::window_at(s, position);
-    let head = emdf_compact::head_length(x) as usize;
+    let word = openjoc_bitio::window_at(s, position);
+    let head = emdf_compact::head_length(word) as usize;
     if head == 0 {
-        return 0;
+        return not_compact();
     }
-    if x >> 59 == 0 {
-        return head;
+    if word >> 59 == 0 {
+        return CompactPayload {
+            word,
+            head,
+            size: 0,
+            length: head,
+        };
     }
     let y = openjoc_bitio::window_at(s, position + head);
     let size = emdf_compact::size_length(y) as usize;
     if size == 0 {
-        return 0;
+        return not_compact();
     }
-    head + size + (emdf_compact::size_value(y) as usize) * 8
+    CompactPayload {
+        word,
+        head,
+        size,
+        length: head + size + (emdf_compact::size_value(y) as usize) * 8,
+    }
 }
 
-// What is recorded of a compact payload of n bits.
-fn compact_record(s: &[u8], position: usize, n: usize) -> PayloadRecord
-    requires { ⌜ (position < 2 ^ 61) × (position + n < 2 ^ 64) ⌝ }
-    ensures { λ r. ⌜ r ≡ recordAt (now (s .entry)) position n ⌝ }
+fn not_compact() -> CompactPayload
+    ensures { λ r. ⌜ r ≡ notCompact ⌝ }
 {
-    let x = openjoc_bitio::window_at(s, position);
-    let size = position + emdf_compact::head_length(x) as usize;
-    let y = openjoc_bitio::window_at(s, size);
-    let body = size + emdf_compact::size_length(y) as usize;
+    CompactPayload {
+        word: 0,
+        head: 0,
+        size: 0,
+        length: 0,
+    }
+}
+
+// What is recorded of a compact payload at a position.
+pub fn compact_record(c: CompactPayload, position: usize) -> PayloadRecord
+    requires { ⌜ (c .head < 2 ^ 7) × (c .size < 2 ^ 7) × (position < 2 ^ 61) × (position + c .length < 2 ^ 64) ⌝ }
+    ensures { λ r. ⌜ r ≡ compactRecord c position ⌝ }
+{
+    let size = position + c.head;
     PayloadRecord {
-        id: x >> 59,
-        config: emdf_compact::compact_config(x << 5),
-        trace: bit_trace(position, position + 5, size, body, position + n),
+        id: c.word >> 59,
+        config: emdf_compact::compact_config(c.word << 5),
+        trace: bit_trace(
+            position,
+            position + 5,
+            size,
+            size + c.size,
+            position + c.length,
+        ),
     }
 }
 

@@ -1,13 +1,13 @@
 -- Laws of the rows, and of two numbers that answer. Assumes nothing.
-use mathlib.Core.Path.{_≡_, refl, ap, _∙_}
+use mathlib.Core.Path.{_≡_, refl, sym, ap, _∙_}
+use mathlib.Core.Bool.{Bool, true, false}
 use mathlib.Core.List.{List, [], _∷_, _++_}
 use Prim.Native.Nat.{ℕ, zero, suc, _+_, _*_, _<_, _≤_}
 use native.Mathlib.Nat.{zero-add}
 use native.Mathlib.Omega.{arith}
+use lib.Dec.{eqb}
 use lib.ListN.{length, drop, length-append}
 use lib.Seq.{sets, sets-eq}
-use Rattle.openjoc_bitio.specs.Bits.{windowAt}
-use Rattle.openjoc_bitio.specs.Cursor.{bitsRemaining}
 use Rattle.openjoc_bitio.specs.declared.BitCursor.{BitCursor}
 use Rattle.emdf_format.specs.Reader.{cursorAt}
 use Rattle.emdf_format.specs.Reading.{Found}
@@ -18,13 +18,13 @@ use Rattle.emdf_format.specs.declared.Optional.{Optional}
 use Rattle.emdf_format.specs.declared.Optional.the-variants.{Absent, Present}
 use Rattle.emdf_format.specs.declared.EmdfPayloadConfig.{EmdfPayloadConfig}
 use Rattle.emdf_format.specs.declared.PayloadRecord.{PayloadRecord}
-use Rattle.emdf_compact.specs.Words.{headLength, sizeLength, sizeValue}
+use Rattle.emdf_fields.specs.Word.{top}
 use Rattle.emdf_payloads.specs.declared.PayloadStep.{PayloadStep}
 use Rattle.emdf_payloads.specs.declared.PayloadStep.the-variants as PayloadStep
 use Rattle.emdf_payloads.specs.Payloads.{Listed, stepAt}
 use Rattle.emdf_payloads.proofs.Walk.{listed-step}
-use Rattle.emdf_payloads.specs.Compact.{compactRecord}
-use Rattle.emdf_payloads.proofs.Compact.{compact-step}
+use Rattle.emdf_payloads.specs.Compact.{CompactAt, compactRecord, compactStep}
+use Rattle.emdf_payloads.specs.declared.CompactPayload.{CompactPayload}
 use Rattle.emdf_answers.specs.Form.{bigEndian, words}
 use Rattle.emdf_answers.specs.Bits.{figured}
 use Rattle.emdf_answers.specs.Carriers.{padded, optionalWords, configWords, traceWords, recordWords, rowsBytes, moveNumber, moveWords}
@@ -114,12 +114,15 @@ module _ {s table complete : List ℕ} {at : BitCursor} {i count : ℕ} where
 pub same-payload : {step : PayloadStep} {r r′ : PayloadRecord} {next next′ : BitCursor} → step ≡ PayloadStep.Payload r next → step ≡ PayloadStep.Payload r′ next′ → (r ≡ r′) × (next ≡ next′)
 same-payload a b = (cc, cc)
 
--- what stands at c, from its words and the lengths of its parts
-pub compact-found : (s : List ℕ) (c : BitCursor) {x head y size value : ℕ} → x ≡ windowAt s (c .position) → head ≡ headLength x → y ≡ windowAt s (c .position + head) → size ≡ sizeLength y → value ≡ sizeValue y
-    → 5 < head → 0 < size → head + size + value * 8 ≤ bitsRemaining s c
-    → stepAt s c ≡ PayloadStep.Payload (compactRecord x (c .position) head size (head + size + value * 8)) (cursorAt (c .end) (c .position + (head + size + value * 8)))
-compact-found s c a b d f g h k l =
-    rw (g, f, d, b, a) (compact-step s c (rw (b, a) at h) (rw (f, d, b, a) at k) (rw (g, f, d, b, a) at l))
+-- where a payload stands, what is compact there is that payload
+module _ {s : List ℕ} {e p : ℕ} {k : CompactPayload} {r : PayloadRecord} {next : BitCursor} where
+  pub compact-payload : CompactAt s e p k → 0 < k .length → stepAt s (cursorAt e p) ≡ PayloadStep.Payload r next → (compactRecord k p ≡ r) × (cursorAt e (p + k .length) ≡ next)
+  unfolding compactStep
+  compact-payload a h f = by-id (eqb (top 5 (k .word)) 0) refl (sym (a .is h) ∙ f)
+    where
+      by-id : (t : Bool) → eqb (top 5 (k .word)) 0 ≡ t → compactStep k e p ≡ PayloadStep.Payload r next → (compactRecord k p ≡ r) × (cursorAt e (p + k .length) ≡ next)
+      by-id true z g = absurd (let g′ = rw z at g in let w : _≡_ {A = ℕ} 0 1 = cc in omega arith)
+      by-id false z g = let g′ : PayloadStep.Payload (compactRecord k p) (cursorAt e (p + k .length)) ≡ PayloadStep.Payload r next = rw z at g in same-payload refl g′
 
 -- ---- two numbers, and a body's move
 

@@ -1,7 +1,7 @@
 // Answers and payloads' rows, stored as numbers of 8 bytes into a host's bytes.
 ghost use mathlib.Core.Path.{_≡_};
 ghost use mathlib.Core.List.{List, [], _∷_};
-ghost use Prim.Native.Nat.{_+_, _*_, _^_, _≤_, _<_};
+ghost use Prim.Native.Nat.{_+_, _*_, _≤_};
 ghost use lib.ListN.{length};
 ghost use lib.Seq.{sets};
 ghost use Rattle.openjoc_bitio.specs.declared.BitCursor.{BitCursor};
@@ -9,7 +9,6 @@ ghost use Rattle.emdf_format.specs.declared.PayloadRecord.{PayloadRecord};
 ghost use Rattle.emdf_format.specs.Reading.{Found};
 ghost use Rattle.emdf_format.specs.Calls.{recordsOf};
 ghost use Rattle.emdf_payloads.specs.Payloads.{Listed, stepAt};
-ghost use Rattle.emdf_payloads.specs.Compact.{compactRecord};
 ghost use Rattle.emdf_payloads.specs.declared.PayloadStep.the-variants.{Payload};
 ghost use Rattle.emdf_answers.specs.Form.{bigEndian, words};
 ghost use Rattle.emdf_answers.specs.Bits.{replyBytes};
@@ -72,49 +71,17 @@ fn put_next(table: &mut [u8], row: usize, s: &[u8], c: BitCursor) -> BitCursor
     requires { ⌜ row + 216 ≤ length (now table) ⌝ }
     ensures { λ r. ⌜ ((found : PayloadRecord) (next : BitCursor) → stepAt (now (s .entry)) c ≡ Payload found next → (now (table .exit) ≡ sets (now (table .entry)) row (words (recordWords found))) × (r ≡ next)) ⌝ }
 {
-    let p = c.position;
+    let position = c.position;
     let end = c.end;
-    // So that no sum below is too large.
-    if 0x2000_0000_0000_0000 <= p {
-        return put_found(table, row, s, BitCursor { position: p, end });
+    let found = emdf_payloads::compact_at(s, position, end);
+    if found.length == 0 {
+        return put_found(table, row, s, BitCursor { position, end });
     }
-    let x = openjoc_bitio::window_at(s, p);
-    let head = emdf_compact::head_length(x) as usize;
-    if head <= 5 {
-        return put_found(table, row, s, BitCursor { position: p, end });
-    }
-    let y = openjoc_bitio::window_at(s, p + head);
-    let size = emdf_compact::size_length(y) as usize;
-    if size == 0 {
-        return put_found(table, row, s, BitCursor { position: p, end });
-    }
-    let n = head + size + (emdf_compact::size_value(y) as usize) * 8;
-    if (BitCursor { position: p, end }).bits_remaining(s) < n {
-        return put_found(table, row, s, BitCursor { position: p, end });
-    }
-    put_compact(table, row, x, p, head, size, n);
+    put_record(table, row, emdf_payloads::compact_record(found, position));
     BitCursor {
-        position: p + n,
+        position: position + found.length,
         end,
     }
-}
-
-// The row of a compact payload, whose id and settings are in the word x.
-fn put_compact(table: &mut [u8], row: usize, x: u64, p: usize, head: usize, size: usize, n: usize)
-    requires { ⌜ (row + 216 ≤ length (now table)) × (5 ≤ head) × (head + size ≤ n) × (p + n < 2 ^ 64) ⌝ }
-    ensures { λ _. ⌜ now (table .exit) ≡ sets (now (table .entry)) row (words (recordWords (compactRecord x p head size n))) ⌝ }
-{
-    let config = emdf_compact::compact_config(x << 5);
-    let trace = emdf_payloads::bit_trace(p, p + 5, p + head, p + head + size, p + n);
-    put_record(
-        table,
-        row,
-        PayloadRecord {
-            id: x >> 59,
-            config,
-            trace,
-        },
-    );
 }
 
 // The row of any payload, by its record.
