@@ -106,7 +106,7 @@ enum {
     EMDF_DEVIATES = 3 /* 1 where any mark is set, else 0 */
 };
 
-/* The marks: a setting that is not as TS 103 420 table 56 wants it, and group ids that are unequal. */
+/* The marks: a setting that is not as the profile wants it, and group ids that are unequal. */
 enum {
     EMDF_MARK_OAMD_SAMPLE_OFFSET = 1 << 0,
     EMDF_MARK_OAMD_DURATION = 1 << 1,

@@ -31,7 +31,7 @@ int emdf_setting_is_optional(unsigned i);
 /* Makes setting i of settings bytes present with a value, or absent; one that can't be absent becomes 0 then. */
 void emdf_put_setting(uint8_t *settings, unsigned i, int is_present, uint64_t value);
 
-/* Settings that are writable: everything absent and discard_unknown_payload 1; and what TS 103 420 table 56 wants, group_id 0. */
+/* Settings that are writable: everything absent and discard_unknown_payload 1; and what the profile wants, with group_id 0. */
 extern const uint8_t emdf_settings_bare[EMDF_SETTINGS];
 extern const uint8_t emdf_settings_profile[EMDF_SETTINGS];
 

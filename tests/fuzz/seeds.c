@@ -95,7 +95,7 @@ static const struct {
     {0, 0, 1}, {1, 3, 1}, {4, 2, 0}, {40, 1, 0}, {9, 300, 0}, {3, 0, 1}, {600, 0, 0}, {1, 60000, 0}, {1, 65523, 0},
 };
 
-/* As table 56 wants it, in both orders. */
+/* As the profile wants it, in both orders. */
 static size_t pair(uint8_t *carrier, uint64_t first, uint64_t second)
 {
     size_t length = blank(carrier, 0, 4, 1);

@@ -10,7 +10,7 @@ enum { CARRIER_MOST = 65539 };
 /* Hands each carrier to `take`, with what `with` is. */
 void seed_carriers(void (*take)(void *with, const uint8_t *bytes, size_t length), void *with);
 
-/* Settings of a kind: 0 the shortest; 1 discard; 2 every number at its most; 3 as table 56 wants them. */
+/* Settings of a kind: 0 the shortest; 1 discard; 2 every number at its most; 3 as the profile wants them. */
 void seed_settings(uint8_t *settings, unsigned kind);
 
 /* A carrier of this many payloads with bodies of these lengths, ids and key ids of 64 bits where `is_wide`. Its length. */

@@ -1,7 +1,7 @@
 """The scope's profile: the verdict on payloads, by their ids and settings. No code of the library is used."""
 from collections import namedtuple
 
-# The ten settings in their order: name here, name in emdf.h, and what table 56 wants.
+# The ten settings in their order: name here, name in emdf.h, and what the profile wants.
 FIELDS = [
     ("sample_offset", "sample_offset", "absent"),
     ("duration", "duration", "absent"),
@@ -16,7 +16,7 @@ FIELDS = [
 ]
 ABSENT = dict.fromkeys(name for name, _, _ in FIELDS)
 
-# As tables 55 and 56 want it.
+# As the profile wants it.
 WANTED = {"group_id": 0, "codec": 1, "discard": 0, "aligned": 1, "create": 0, "remove": 0, "priority": 0, "processing": 0}
 # What producers were seen to leave out on OAMD.
 BARE = {"group_id": 0, "codec": 0, "discard": 0, "aligned": 0}

@@ -52,7 +52,7 @@ whenPresent test (Present v) = test v
 unfoldable pub upTo : ℕ → ℕ → Bool
 upTo n v = leb v n
 
--- ---- which settings are present: table H.2.4's conditions
+-- ---- which settings are present, as the original has it
 
 -- payload_frame_aligned: discard is 0, and there is no sample offset
 unfoldable pub hasAligned : ℕ → Optional → Bool
@@ -88,7 +88,7 @@ unfoldable pub writablePayloads : List Payload → Bool
 writablePayloads [] = true
 writablePayloads (x ∷ xs) = writablePayload x & writablePayloads xs
 
--- table H.2.5: the length of a protection, by its code; a code by its length
+-- the length of a protection by its code, as the original has it; a code by its length
 unfoldable pub protectionLength : ℕ → ℕ
 protectionLength zero = 0
 protectionLength (suc zero) = 1
@@ -152,16 +152,16 @@ declared c = (neededBits c + 7) / 8
 
 -- ---- the bits that they are written as
 
--- smploffst and its reserved bit
+-- a sample offset and its reserved bit
 unfoldable pub sampleOffsetBits : ℕ → List ℕ
 sampleOffsetBits v = numberBits 11 v ⨟ (0 ∷ [])
 
--- codecdatae and, where it is set, the reserved octet
+-- the codec flag and, where it is set, the reserved octet
 unfoldable pub codecDataBits : ℕ → List ℕ
 codecDataBits zero = 0 ∷ []
 codecDataBits (suc c) = 1 ∷ numberBits 8 0
 
--- emdf_payload_config(), table H.2.4
+-- the settings of a payload
 unfoldable pub configBits : EmdfPayloadConfig → List ℕ
 configBits t =
     flaggedField sampleOffsetBits (t .«sample_offset»)
@@ -175,7 +175,7 @@ configBits t =
     ⨟ presentField (numberBits 5) (t .priority)
     ⨟ presentField (numberBits 2) (t .«processing_allowed»)
 
--- emdf_payload_id, its configuration, emdf_payload_size and the payload's octets
+-- a payload: its id, its settings, its size and its octets
 unfoldable pub payloadBits : Payload → List ℕ
 payloadBits x =
     extendedField 5 (x .id) ⨟ configBits (x .config) ⨟ variableField 8 (length (x .body)) ⨟ octetBits (x .body)
@@ -185,7 +185,7 @@ unfoldable pub payloadsBits : List Payload → List ℕ
 payloadsBits [] = numberBits 5 0
 payloadsBits (x ∷ xs) = payloadBits x ⨟ payloadsBits xs
 
--- emdf_protection(), table H.2.5
+-- the two codes and the two protections
 unfoldable pub protectionBits : List ℕ → List ℕ → List ℕ
 protectionBits primary secondary =
     numberBits 2 (protectionCode (length primary))
@@ -193,7 +193,7 @@ protectionBits primary secondary =
     ⨟ octetBits primary
     ⨟ octetBits secondary
 
--- emdf_container(): version 0, key_id, the payloads, the protection
+-- the container: version 0, the key id, the payloads, the protection
 unfoldable pub containerBits : Contents → List ℕ
 containerBits c =
     numberBits 2 0
@@ -201,7 +201,7 @@ containerBits c =
     ⨟ payloadsBits (c .payloads)
     ⨟ protectionBits (c .primary) (c .secondary)
 
--- emdf_sync(): the sync word, the declared length, the container, zero bits to the byte
+-- the carrier: the sync word, the declared length, the container, zero bits to the byte
 unfoldable pub carrierBits : Contents → List ℕ
 carrierBits c =
     numberBits 16 0x5838

@@ -1,4 +1,5 @@
--- The verdict of TS 103 420: table 55 (which payloads there are), table 56 (their settings), and the two policies. Assumes nothing.
+-- The verdict of TS 103 420, as the original has it: table 55 (which payloads there are), table 56 (their settings), and the two
+-- policies. Assumes nothing.
 use mathlib.Core.Bool.{Bool, true, false, not, _||_}
 use mathlib.Core.List.{List, [], _∷_, _++_}
 use mathlib.Core.Option.{Option, none, some}
@@ -27,7 +28,7 @@ use Rattle.emdf_format.specs.declared.JocProfileAnswer.the-variants.{Acc
 use Rattle.emdf_format.specs.Contents.{_&_, isPresent}
 use Rattle.emdf_format.specs.Reading.{Found, Reading, accepted, refusal, reading}
 
--- ---- table 56
+-- ---- table 56, and the sample offset and frame alignment that the original takes it to imply
 
 unfoldable pub meets : JocProfileValue → Optional → Bool
 meets JocProfileValue.Absent o = not (isPresent o)

@@ -1,4 +1,4 @@
--- The reading of a carrier: Annex H's tables in order, with the scope's questions 1 to 12 each in its place. Assumes nothing.
+-- The reading of a carrier: its fields in order, with the scope's questions 1 to 12 each in its place. Assumes nothing.
 use mathlib.Core.Bool.{false, not}
 use mathlib.Core.List.{List, [], _∷_}
 use Prim.Native.Nat.{ℕ, zero, suc, _+_, _-_, _*_}
@@ -16,7 +16,7 @@ use Rattle.emdf_format.specs.declared.PayloadRecord.{PayloadRecord}
 use Rattle.emdf_format.specs.Contents.{Payload, Contents, hasAligned, isOne, hasPriority, protectionLength}
 use Rattle.emdf_format.specs.Reader.{Read, got, refused, Reader, _>>=_, give, ask, choose, position, remaining, bits, variableBits, extendedValue, octets, present, flagged}
 
--- ---- settings: emdf_payload_config(), table H.2.4
+-- ---- settings
 
 -- w reserved bits
 unfoldable pub reserved : ℕ → Reader (Unit {0})
@@ -146,7 +146,7 @@ container = do
   found ← payloads n
   containerEnd key-id found
 
--- ---- the carrier: emdf_sync()
+-- ---- the carrier
 
 -- bytes consumed, and what they hold; or why not
 pub data Reading : Type 0 where

@@ -11,7 +11,7 @@ pub const OAMD_PAYLOAD_ID: u64 = 11;
 
 pub const JOC_PAYLOAD_ID: u64 = 14;
 
-// Limits of the original that Annex H doesn't state: docs/DIFFERENCES.md.
+// Limits of the original, for which it cites no clause: docs/DIFFERENCES.md.
 pub const MAX_EXTENDED_GROUPS: u8 = 31;
 
 pub const MAX_DURATION_GROUPS: u8 = 2;
@@ -94,7 +94,7 @@ pub enum BodyAnswer {
     Refused(BodyError),
 }
 
-// The policy of a verdict: tables 55 and 56 as published, or with the deviations that producers were seen to make.
+// The policy of a verdict: tables 55 and 56 as the original has them, or with the deviations that it lets pass.
 pub enum JocValidationProfile {
     EtsiStrict,
     ObservedVendorCompat,
@@ -112,7 +112,7 @@ pub enum JocRole {
     Joc,
 }
 
-// What table 56 wants of a setting.
+// What the profile wants of a setting.
 pub enum JocProfileValue {
     Absent,
     Present,
@@ -125,7 +125,7 @@ pub enum AllowedDeviation {
     Only(Optional),
 }
 
-// The settings as table 56 names them.
+// The settings that the profile asks, under the original's names.
 pub enum JocProfileField {
     SampleOffset,
     Duration,

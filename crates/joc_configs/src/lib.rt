@@ -1,4 +1,5 @@
-// The settings of an OAMD and a JOC payload, judged by table 56: marks, and whether a profile lets them pass.
+// The settings of an OAMD and a JOC payload, judged by table 56 as the original has it: marks, and whether a profile lets
+// them pass.
 ghost use mathlib.Core.Path.{_≡_};
 ghost use mathlib.Core.Bool.{not};
 ghost use mathlib.Core.List.{List};
@@ -21,7 +22,7 @@ use emdf_format::Optional;
 use emdf_format::PlacedConfig;
 use emdf_format::ValidatedJocProfile;
 
-// Table 56.
+// Table 56, as the original has it.
 pub fn judge_configs(
     profile: JocValidationProfile,
     oamd: PlacedConfig,

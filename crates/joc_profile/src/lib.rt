@@ -1,4 +1,4 @@
-// The verdict on a carrier: TS 103 420 tables 55 and 56, by a strict and by a compatible policy.
+// The verdict on a carrier: TS 103 420 tables 55 and 56 as the original has them, by a strict and by a compatible policy.
 ghost use mathlib.Core.Path.{_≡_};
 ghost use mathlib.Core.List.{List};
 ghost use Prim.Native.Nat.{_+_, _≤_, _<_, _^_};
@@ -53,7 +53,7 @@ pub fn validate_joc_profile_for(bytes: &[u8], profile: JocValidationProfile) -> 
     judge_pair(profile, oamd, joc)
 }
 
-// The verdict by the published tables.
+// The verdict by the strict policy.
 pub fn validate_joc_profile(bytes: &[u8]) -> JocProfileAnswer
     ensures { λ r. ⌜ r ≡ verdict EtsiStrict (now (bytes .entry)) ⌝ }
 {
