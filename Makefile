@@ -9,7 +9,8 @@
 # make fuzz        the library's calls fuzzed for a minute, after the fuzzer's self-check
 # make threads     the library's calls from eight threads
 # make stack       the stack that each call takes
-.PHONY: test emdfcheck lib emdf panel install long bench fuzz threads stack
+# make peer        carriers read by emdf and by MediaInfo, where that is installed
+.PHONY: test emdfcheck lib emdf panel install long bench fuzz threads stack peer
 # Two runs of rt would write the same target/.
 .NOTPARALLEL:
 
@@ -70,3 +71,8 @@ threads: lib
 
 stack: lib
 	@tests/stack/run
+
+# Nothing is proved and built where there is nothing to compare with.
+peer:
+	@! command -v mediainfo >/dev/null || $(MAKE) --no-print-directory emdf
+	@tests/peer/run
