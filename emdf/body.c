@@ -19,7 +19,7 @@ int command_body(char **words)
 {
     static struct input input;
     static uint8_t scratch[BODY_MOST];
-    uint8_t answer[EMDF_MOVE_ANSWER];
+    uint8_t answer[EMDF_MOVE_ANSWER_BYTES];
     const char *out;
     uint64_t place, start;
     uint32_t number;
@@ -61,7 +61,7 @@ static int parse_word(const char *word, struct blank *blank)
 static int write_blank(const struct blank *blank, const char *out)
 {
     static uint8_t carrier[CARRIER_MOST];
-    uint8_t answer[EMDF_EDIT_ANSWER];
+    uint8_t answer[EMDF_EDIT_ANSWER_BYTES];
     uint32_t number = emdf_blank(blank->key, blank->primary.bytes, blank->primary.length, blank->secondary.bytes,
                                  blank->secondary.length, carrier, sizeof carrier, answer);
     if (number != EMDF_ACCEPTED)

@@ -7,8 +7,7 @@ enum {
     KEY_ESCAPE = 7,
     GROUPS_MOST = 31,
     END_MARK_BITS = 5,
-    CODES_BITS = 4,
-    PROTECTION_FIELD = 16 /* bytes that a protection takes in an answer */
+    CODES_BITS = 4
 };
 
 int load_input(struct input *input, const char *name)
@@ -20,7 +19,7 @@ int load_input(struct input *input, const char *name)
 /* Where the key id ends: a carrier that is read has one, and its escape adds a variable field. */
 static uint64_t find_key_end(const struct input *input, uint64_t bytes)
 {
-    uint8_t answer[EMDF_BIT_ANSWER];
+    uint8_t answer[EMDF_BIT_ANSWER_BYTES];
     size_t length = (size_t)bytes, end = 8 * length;
     emdf_read_bits(input->bytes, length, HEADER_END, end, KEY_WIDTH, answer);
     if (emdf_word(answer, EMDF_VALUE) == KEY_ESCAPE)
@@ -30,7 +29,7 @@ static uint64_t find_key_end(const struct input *input, uint64_t bytes)
 
 const uint8_t *row_at(const struct reading *reading, size_t place)
 {
-    return reading->rows + place * EMDF_ROW;
+    return reading->rows + place * EMDF_ROW_BYTES;
 }
 
 const uint8_t *settings_at(const struct reading *reading, size_t place)
@@ -41,7 +40,7 @@ const uint8_t *settings_at(const struct reading *reading, size_t place)
 void read_carrier(const struct input *input, struct reading *reading)
 {
     /* Filled by emdf_read alone, and read only as far as it filled it. */
-    static uint8_t table[(size_t)EMDF_PAYLOADS_MOST * EMDF_ROW];
+    static uint8_t table[(size_t)EMDF_PAYLOADS_MOST * EMDF_ROW_BYTES];
     uint64_t protections;
     reading->number = emdf_read(input->bytes, input->length, table, sizeof table, reading->answer);
     reading->rows = table;
@@ -61,7 +60,7 @@ void read_carrier(const struct input *input, struct reading *reading)
 
 size_t body_start(const struct input *input, const uint8_t *row, uint8_t *first)
 {
-    uint8_t answer[EMDF_BIT_ANSWER];
+    uint8_t answer[EMDF_BIT_ANSWER_BYTES];
     size_t bit = (size_t)emdf_word(row, EMDF_ROW_BODY_START_BIT), end = (size_t)emdf_word(row, EMDF_ROW_BODY_END_BIT), n;
     for (n = 0; bit < end && n < BODY_BYTES_SHOWN; n++, bit += 8) {
         emdf_read_bits(input->bytes, input->length, bit, end, 8, answer);
@@ -74,7 +73,7 @@ size_t body_start(const struct input *input, const uint8_t *row, uint8_t *first)
 static const uint8_t *protection_of(const struct reading *reading, size_t length_place, size_t field_place, size_t *length)
 {
     *length = (size_t)emdf_word(reading->answer, length_place);
-    return reading->answer + 8 * field_place + PROTECTION_FIELD - *length;
+    return reading->answer + 8 * field_place + EMDF_PROTECTION_BYTES - *length;
 }
 
 const uint8_t *primary_of(const struct reading *reading, size_t *length)

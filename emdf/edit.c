@@ -10,7 +10,7 @@ struct edit {
     size_t count;
     uint64_t place, id; /* id: of a payload or a key */
     const uint8_t *base; /* the settings that it starts from; NULL: those of the payload */
-    uint8_t values[EMDF_SETTINGS]; /* where is_named */
+    uint8_t values[EMDF_SETTINGS_BYTES]; /* where is_named */
     int is_named[EMDF_SETTING_COUNT];
     struct octets octets, secondary; /* a body, or the protections */
 };
@@ -19,7 +19,7 @@ struct edit {
 struct carriers {
     struct input source;
     uint8_t destination[CARRIER_MOST];
-    uint8_t answer[EMDF_EDIT_ANSWER];
+    uint8_t answer[EMDF_EDIT_ANSWER_BYTES];
 };
 
 /* ---- arguments: each function answers 0 after a complaint */
@@ -148,7 +148,7 @@ static void name_settings(const struct edit *edit, const uint8_t *base, uint8_t 
 {
     uint64_t value;
     unsigned i;
-    memcpy(settings, base, EMDF_SETTINGS);
+    memcpy(settings, base, EMDF_SETTINGS_BYTES);
     for (i = 0; i < EMDF_SETTING_COUNT; i++)
         if (edit->is_named[i]) {
             int is_present = emdf_setting(edit->values, i, &value);
@@ -159,7 +159,7 @@ static void name_settings(const struct edit *edit, const uint8_t *base, uint8_t 
 /* Where there is no such payload, or no carrier, any settings will do: the library says so. */
 static uint32_t run_set(struct carriers *c, const struct edit *edit)
 {
-    uint8_t settings[EMDF_SETTINGS];
+    uint8_t settings[EMDF_SETTINGS_BYTES];
     struct reading reading;
     const uint8_t *base = edit->base ? edit->base : emdf_settings_bare;
     read_carrier(&c->source, &reading);
@@ -177,7 +177,7 @@ static uint32_t run_drop(struct carriers *c, const struct edit *edit)
 
 static uint32_t run_insert(struct carriers *c, const struct edit *edit)
 {
-    uint8_t settings[EMDF_SETTINGS];
+    uint8_t settings[EMDF_SETTINGS_BYTES];
     name_settings(edit, edit->base, settings);
     return emdf_edit_insert(c->source.bytes, c->source.length, (size_t)edit->place, edit->id, settings, sizeof settings,
                             edit->octets.bytes, edit->octets.length, c->destination, sizeof c->destination, c->answer);

@@ -7,7 +7,7 @@
 struct report {
     struct input input;
     uint32_t number; /* of the classification */
-    uint8_t is[EMDF_CLASS_ANSWER];
+    uint8_t is[EMDF_CLASS_ANSWER_BYTES];
     struct reading reading;
 };
 

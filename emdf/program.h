@@ -71,7 +71,7 @@ struct input {
 /* What emdf_read answered, and the rows that it filled. */
 struct reading {
     uint32_t number;
-    uint8_t answer[EMDF_READ_ANSWER];
+    uint8_t answer[EMDF_READ_ANSWER_BYTES];
     const uint8_t *rows;
     size_t count;     /* 0 where it refused */
     uint64_t bytes;   /* of the carrier */
@@ -95,7 +95,7 @@ const uint8_t *secondary_of(const struct reading *reading, size_t *length);
 
 struct verdict {
     uint32_t profile, number;
-    uint8_t answer[EMDF_VERDICT_ANSWER];
+    uint8_t answer[EMDF_VERDICT_ANSWER_BYTES];
 };
 
 void judge(const struct input *input, uint32_t profile, struct verdict *verdict);

@@ -1,4 +1,13 @@
-/* The C host's calls of Ngeritaho. docs/HOST.md says what each answers and what is guaranteed. */
+/* The C host's calls of Ngeritaho. docs/HOST.md says what each answers and what is guaranteed.
+
+   A slice is a pointer and a number of bytes. Where the number is 0 the pointer may be any, NULL too: nothing is read or written
+   through it. An answer is never NULL; it has the number of bytes that its parameter says.
+
+   What a call only reads (const uint8_t *) may overlap: a body may lie in the source, and two slices may be the same. What a call
+   writes (answer, table, scratch, destination) must not overlap anything else that is lent to the same call.
+
+   A call asks its questions in the order in which its comment has their numbers. The first "no" is the refusal: the call returns
+   the number, and writes its figures to the answer. */
 #ifndef EMDF_H
 #define EMDF_H
 
@@ -8,6 +17,11 @@
 #ifdef __cplusplus
 extern "C" {
 #endif
+
+/* The version of what the calls take and answer. It rises whenever the size or the meaning of an answer, a row, settings or a
+   refusal changes. emdf_version() is the archive's: where the two differ, the header is of another library. */
+#define EMDF_VERSION 1
+uint32_t emdf_version(void);
 
 /* What a call returns: 0, or the number of the refusal, whose figures are the answer's first two numbers (of
    emdf_classify, the two after the class). */
@@ -41,8 +55,11 @@ enum {
 #define EMDF_CARRIER_MOST 65539
 #define EMDF_PAYLOADS_MOST 27592
 
+/* The most bytes that a protection has, and the bytes that it takes in an answer. */
+#define EMDF_PROTECTION_BYTES 16
+
 /* The size in bytes of a bit or field call's answer, and where its six numbers stand (see emdf_word). */
-#define EMDF_BIT_ANSWER 48
+#define EMDF_BIT_ANSWER_BYTES 48
 enum {
     EMDF_VALUE = 0,           /* the value read, or a refusal's first figure */
     EMDF_SECOND_FIGURE = 1,   /* a refusal's second figure, or 0 */
@@ -54,19 +71,19 @@ enum {
 };
 
 /* The size in bytes of emdf_read's answer, and where its nine numbers stand. */
-#define EMDF_READ_ANSWER 72
+#define EMDF_READ_ANSWER_BYTES 72
 enum {
     EMDF_BYTES_CONSUMED = 0,
     EMDF_KEY_ID = 1,
     EMDF_PAYLOADS = 2,
     EMDF_PRIMARY_LENGTH = 3,
-    EMDF_PRIMARY = 4,          /* 16 bytes, of which the last EMDF_PRIMARY_LENGTH are the protection */
+    EMDF_PRIMARY = 4,          /* EMDF_PROTECTION_BYTES, of which the last EMDF_PRIMARY_LENGTH are the protection */
     EMDF_SECONDARY_LENGTH = 6,
-    EMDF_SECONDARY = 7         /* 16 bytes, likewise */
+    EMDF_SECONDARY = 7         /* likewise */
 };
 
 /* The size in bytes of emdf_classify's answer, and where its numbers stand. */
-#define EMDF_CLASS_ANSWER 80
+#define EMDF_CLASS_ANSWER_BYTES 80
 enum {
     EMDF_CLASS = 0,
     EMDF_CLASS_READING = 1,        /* EMDF_PARSED: the nine numbers of emdf_read, from here on */
@@ -85,7 +102,7 @@ enum {
 };
 
 /* The size in bytes of emdf_move_body's answer, and where its two numbers stand. */
-#define EMDF_MOVE_ANSWER 16
+#define EMDF_MOVE_ANSWER_BYTES 16
 enum {
     EMDF_BODY_START_BIT = 0,
     EMDF_BODY_LENGTH = 1
@@ -98,7 +115,7 @@ enum {
 };
 
 /* The size in bytes of emdf_verdict's answer, and where its four numbers stand. */
-#define EMDF_VERDICT_ANSWER 32
+#define EMDF_VERDICT_ANSWER_BYTES 32
 enum {
     EMDF_OAMD_PLACE = 0,
     EMDF_JOC_PLACE = 1,
@@ -133,7 +150,7 @@ enum {
 
 /* The size in bytes of a payload's row in the table, and where its 27 numbers stand. The number before a value is 1 where
    the value is present, and 0, with the value 0, where it is absent. Starts and ends are in bits from the carrier's first. */
-#define EMDF_ROW 216
+#define EMDF_ROW_BYTES 216
 enum {
     EMDF_ROW_ID = 0,
     EMDF_ROW_HAS_SAMPLE_OFFSET = 1,
@@ -165,14 +182,14 @@ enum {
 };
 
 /* The size in bytes of an edit's or emdf_blank's answer, and where the number of an accepted one stands. */
-#define EMDF_EDIT_ANSWER 16
+#define EMDF_EDIT_ANSWER_BYTES 16
 enum {
     EMDF_WRITTEN_LENGTH = 0 /* the new carrier's length in bytes; number 1 is 0 */
 };
 
 /* The size in bytes of a payload's settings, as the edits take them, and where their 18 numbers stand. They are numbers 1 to 18
-   of a row: a payload's settings are the EMDF_SETTINGS bytes of its row from 8 * EMDF_ROW_HAS_SAMPLE_OFFSET on. */
-#define EMDF_SETTINGS 144
+   of a row: a payload's settings are the EMDF_SETTINGS_BYTES bytes of its row from 8 * EMDF_ROW_HAS_SAMPLE_OFFSET on. */
+#define EMDF_SETTINGS_BYTES 144
 enum {
     EMDF_SETTINGS_HAS_SAMPLE_OFFSET = 0,
     EMDF_SETTINGS_SAMPLE_OFFSET = 1,
@@ -214,53 +231,69 @@ static inline void emdf_set_word(uint8_t *settings, size_t i, uint64_t v)
     }
 }
 
-/* Bits, most significant first. position and end count bits from the first bit of bytes. */
-uint32_t emdf_bit_cursor(const uint8_t *bytes, size_t length, uint8_t *answer);
-uint32_t emdf_bits_remaining(const uint8_t *bytes, size_t length, size_t position, size_t end, uint8_t *answer);
-uint32_t emdf_read_bits(const uint8_t *bytes, size_t length, size_t position, size_t end, uint8_t width, uint8_t *answer);
-uint32_t emdf_read_bit(const uint8_t *bytes, size_t length, size_t position, size_t end, uint8_t *answer);
-uint32_t emdf_take_bits(const uint8_t *bytes, size_t length, size_t position, size_t end, size_t count, uint8_t *answer);
-uint32_t emdf_byte_align(const uint8_t *bytes, size_t length, size_t position, size_t end, uint8_t *answer);
+/* Bits, most significant first. position and end count bits from the first bit of bytes. Asked: of emdf_read_bits 4, 3; of
+   emdf_read_bit, emdf_take_bits and emdf_byte_align 3; of the other two nothing. */
+uint32_t emdf_bit_cursor(const uint8_t *bytes, size_t length, uint8_t answer[EMDF_BIT_ANSWER_BYTES]);
+uint32_t emdf_bits_remaining(const uint8_t *bytes, size_t length, size_t position, size_t end,
+                             uint8_t answer[EMDF_BIT_ANSWER_BYTES]);
+uint32_t emdf_read_bits(const uint8_t *bytes, size_t length, size_t position, size_t end, uint8_t width,
+                        uint8_t answer[EMDF_BIT_ANSWER_BYTES]);
+uint32_t emdf_read_bit(const uint8_t *bytes, size_t length, size_t position, size_t end, uint8_t answer[EMDF_BIT_ANSWER_BYTES]);
+uint32_t emdf_take_bits(const uint8_t *bytes, size_t length, size_t position, size_t end, size_t count,
+                        uint8_t answer[EMDF_BIT_ANSWER_BYTES]);
+uint32_t emdf_byte_align(const uint8_t *bytes, size_t length, size_t position, size_t end,
+                         uint8_t answer[EMDF_BIT_ANSWER_BYTES]);
 
-/* A variable field. A refused one has the cursor after the last bit that it read. */
+/* A variable field. A refused one has the cursor after the last bit that it read. Asked: 5; then of each group 3 (its value
+   bits), 7 (the sum), 3 (its more bit) and, where that is 1, 6 (may a group follow?) and 7 (what it starts from). */
 uint32_t emdf_variable_bits(const uint8_t *bytes, size_t length, size_t position, size_t end, uint8_t width, uint8_t limit,
-                            uint8_t *answer);
+                            uint8_t answer[EMDF_BIT_ANSWER_BYTES]);
 
-/* What a range of bytes is. Returns 0 unless it is EMDF_MALFORMED. */
-uint32_t emdf_classify(const uint8_t *bytes, size_t length, uint8_t *answer);
+/* A reading is what each call on a carrier begins with. Asked: 1 (are 4 bytes there?), 2, 1 (are the declared bytes there?); then
+   field by field, in the carrier's order, 3 of each read, 7 and 6 of a variable field as above, 7 of its sum with an escape, 9
+   right after reserved bits; 8 after the version and before the key id; 10 after both protection codes; 11 and 12 at the end. */
+
+/* What a range of bytes is. Returns 0 unless it is EMDF_MALFORMED. Asked, where it has 2 bytes and they are the sync word: the
+   reading. */
+uint32_t emdf_classify(const uint8_t *bytes, size_t length, uint8_t answer[EMDF_CLASS_ANSWER_BYTES]);
 
 /* Reads the carrier at the start of bytes. The table gets a row a payload; the rest of it, and all of it where the call
-   refuses, stays as it was. */
-uint32_t emdf_read(const uint8_t *bytes, size_t length, uint8_t *table, size_t table_length, uint8_t *answer);
+   refuses, stays as it was. Asked: the reading, 13. */
+uint32_t emdf_read(const uint8_t *bytes, size_t length, uint8_t *table, size_t table_length,
+                   uint8_t answer[EMDF_READ_ANSWER_BYTES]);
 
-/* Copies the body of the payload at place to the scratch, unless it starts on a byte of the carrier. */
+/* Copies the body of the payload at place to the scratch, unless it starts on a byte of the carrier. Asked: the reading, 16 and,
+   of a body that is copied, 19. */
 uint32_t emdf_move_body(const uint8_t *bytes, size_t length, size_t place, uint8_t *scratch, size_t scratch_length,
-                        uint8_t *answer);
+                        uint8_t answer[EMDF_MOVE_ANSWER_BYTES]);
 
-/* Whether the carrier at the start of bytes meets a profile: EMDF_STRICT or EMDF_COMPAT. */
-uint32_t emdf_verdict(const uint8_t *bytes, size_t length, uint32_t profile, uint8_t *answer);
+/* Whether the carrier at the start of bytes meets a profile: EMDF_STRICT or EMDF_COMPAT. Asked: the reading, 14, 15. */
+uint32_t emdf_verdict(const uint8_t *bytes, size_t length, uint32_t profile, uint8_t answer[EMDF_VERDICT_ANSWER_BYTES]);
 
 /* The six edits. The source is exactly one carrier; the changed one goes to the first bytes of the destination. The rest of the
    destination, and all of it where the call refuses, stays as it was. Places count from 0; an insert stands before the payload
-   at place, or after the last where place is the count. */
+   at place, or after the last where place is the count. Asked: the reading of the source, 20, 16 (of a place), 17, 18, 19. The
+   answer to 17 is never "no" for a body, a drop or a key, and to 18 for a drop. */
 uint32_t emdf_edit_body(const uint8_t *source, size_t source_length, size_t place, const uint8_t *body, size_t body_length,
-                        uint8_t *destination, size_t destination_length, uint8_t *answer);
+                        uint8_t *destination, size_t destination_length, uint8_t answer[EMDF_EDIT_ANSWER_BYTES]);
 uint32_t emdf_edit_settings(const uint8_t *source, size_t source_length, size_t place, const uint8_t *settings,
-                            size_t settings_length, uint8_t *destination, size_t destination_length, uint8_t *answer);
+                            size_t settings_length, uint8_t *destination, size_t destination_length,
+                            uint8_t answer[EMDF_EDIT_ANSWER_BYTES]);
 uint32_t emdf_edit_drop(const uint8_t *source, size_t source_length, size_t place, uint8_t *destination,
-                        size_t destination_length, uint8_t *answer);
+                        size_t destination_length, uint8_t answer[EMDF_EDIT_ANSWER_BYTES]);
 uint32_t emdf_edit_insert(const uint8_t *source, size_t source_length, size_t place, uint64_t id, const uint8_t *settings,
                           size_t settings_length, const uint8_t *body, size_t body_length, uint8_t *destination,
-                          size_t destination_length, uint8_t *answer);
+                          size_t destination_length, uint8_t answer[EMDF_EDIT_ANSWER_BYTES]);
 uint32_t emdf_edit_key(const uint8_t *source, size_t source_length, uint64_t key, uint8_t *destination,
-                       size_t destination_length, uint8_t *answer);
+                       size_t destination_length, uint8_t answer[EMDF_EDIT_ANSWER_BYTES]);
 uint32_t emdf_edit_protection(const uint8_t *source, size_t source_length, const uint8_t *primary, size_t primary_length,
                               const uint8_t *secondary, size_t secondary_length, uint8_t *destination,
-                              size_t destination_length, uint8_t *answer);
+                              size_t destination_length, uint8_t answer[EMDF_EDIT_ANSWER_BYTES]);
 
-/* The carrier of a key id and protections, without payloads, into the destination as an edit's. */
+/* The carrier of a key id and protections, without payloads, into the destination as an edit's. Asked: 17, 19. */
 uint32_t emdf_blank(uint64_t key, const uint8_t *primary, size_t primary_length, const uint8_t *secondary,
-                    size_t secondary_length, uint8_t *destination, size_t destination_length, uint8_t *answer);
+                    size_t secondary_length, uint8_t *destination, size_t destination_length,
+                    uint8_t answer[EMDF_EDIT_ANSWER_BYTES]);
 
 #ifdef __cplusplus
 }

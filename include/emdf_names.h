@@ -32,8 +32,8 @@ int emdf_setting_is_optional(unsigned i);
 void emdf_put_setting(uint8_t *settings, unsigned i, int is_present, uint64_t value);
 
 /* Settings that are writable: everything absent and discard_unknown_payload 1; and what the profile wants, with group_id 0. */
-extern const uint8_t emdf_settings_bare[EMDF_SETTINGS];
-extern const uint8_t emdf_settings_profile[EMDF_SETTINGS];
+extern const uint8_t emdf_settings_bare[EMDF_SETTINGS_BYTES];
+extern const uint8_t emdf_settings_profile[EMDF_SETTINGS_BYTES];
 
 /* The 21 marks of a verdict, by their bit: the name, as emdf.h has it in its constants, and what is wanted; NULL from 21 on. */
 #define EMDF_MARK_COUNT 21

@@ -60,7 +60,7 @@ int emdf_refusal_figure_digits(uint32_t number, unsigned i)
 
 /* ---- settings */
 
-enum { ALWAYS_PRESENT = EMDF_SETTINGS }; /* no number of settings stands there */
+enum { ALWAYS_PRESENT = EMDF_SETTINGS_BYTES }; /* no number of settings stands there */
 
 struct setting {
     const char *name;
@@ -111,13 +111,13 @@ void emdf_put_setting(uint8_t *settings, unsigned i, int is_present, uint64_t va
 /* A number in settings is 8 bytes, the most significant first. */
 #define WORD(v) 0, 0, 0, 0, 0, 0, 0, v
 
-const uint8_t emdf_settings_bare[EMDF_SETTINGS] = {
+const uint8_t emdf_settings_bare[EMDF_SETTINGS_BYTES] = {
     WORD(0), WORD(0), WORD(0), WORD(0), WORD(0), WORD(0), /* sample_offset, duration, group_id: absent */
     WORD(0), WORD(1),                                     /* codec_data_present, discard_unknown_payload */
     WORD(0), WORD(0), WORD(0), WORD(0), WORD(0), WORD(0), WORD(0), WORD(0), WORD(0), WORD(0),
 };
 
-const uint8_t emdf_settings_profile[EMDF_SETTINGS] = {
+const uint8_t emdf_settings_profile[EMDF_SETTINGS_BYTES] = {
     WORD(0), WORD(0), WORD(0), WORD(0), WORD(1), WORD(0), /* sample_offset, duration: absent; group_id 0 */
     WORD(1), WORD(0),                                     /* codec_data_present, discard_unknown_payload */
     WORD(1), WORD(1),                                     /* payload_frame_aligned */

@@ -17,8 +17,7 @@ enum {
     LINE_MOST = 4095 + 32,
 
     BODY_BYTES_SHOWN = 16,
-    RULER_MARKS = 64,
-    PROTECTION_FIELD = 16 /* bytes that a protection takes in an answer */
+    RULER_MARKS = 64
 };
 
 /* The exit status: the largest that an answer had. */
@@ -33,7 +32,7 @@ struct panel {
 };
 
 /* Rows are filled by emdf_read alone, and read only as far as it filled them. */
-static uint8_t table[(size_t)EMDF_PAYLOADS_MOST * EMDF_ROW];
+static uint8_t table[(size_t)EMDF_PAYLOADS_MOST * EMDF_ROW_BYTES];
 
 static void raise_status(struct panel *panel, int status)
 {
@@ -70,7 +69,7 @@ static void print_reading(const char *title, const uint8_t *nine)
 
 static void print_class(struct panel *panel)
 {
-    uint8_t answer[EMDF_CLASS_ANSWER];
+    uint8_t answer[EMDF_CLASS_ANSWER_BYTES];
     uint32_t number = emdf_classify(panel->file, panel->length, answer);
     switch (emdf_word(answer, EMDF_CLASS)) {
     case EMDF_NON_EMDF:
@@ -153,7 +152,7 @@ static void print_protection(const char *name, const uint8_t *answer, size_t len
 {
     size_t length = (size_t)emdf_word(answer, length_place);
     printf(" %s=", name);
-    print_bytes(answer + 8 * field_place + PROTECTION_FIELD - length, length);
+    print_bytes(answer + 8 * field_place + EMDF_PROTECTION_BYTES - length, length);
 }
 
 static void print_settings(const uint8_t *row)
@@ -197,7 +196,7 @@ static void print_ruler(const uint8_t *row)
 /* The row has the body's span, so its first bytes are read there: a move call would read the whole carrier for each body. */
 static void print_body(const struct panel *panel, const uint8_t *row)
 {
-    uint8_t first[BODY_BYTES_SHOWN], answer[EMDF_BIT_ANSWER];
+    uint8_t first[BODY_BYTES_SHOWN], answer[EMDF_BIT_ANSWER_BYTES];
     size_t start = (size_t)emdf_word(row, EMDF_ROW_BODY_START_BIT), end = (size_t)emdf_word(row, EMDF_ROW_BODY_END_BIT);
     size_t length = (end - start) / 8, n;
     for (n = 0; n < length && n < BODY_BYTES_SHOWN; n++) {
@@ -211,7 +210,7 @@ static void print_body(const struct panel *panel, const uint8_t *row)
 
 static void print_payload(const struct panel *panel, size_t place)
 {
-    const uint8_t *row = table + place * EMDF_ROW;
+    const uint8_t *row = table + place * EMDF_ROW_BYTES;
     printf("payload %lu id=%" PRIu64 "\n", (unsigned long)place, emdf_word(row, EMDF_ROW_ID));
     print_settings(row);
     print_spans(row);
@@ -221,7 +220,7 @@ static void print_payload(const struct panel *panel, size_t place)
 
 static void press_stream(struct panel *panel)
 {
-    uint8_t answer[EMDF_READ_ANSWER];
+    uint8_t answer[EMDF_READ_ANSWER_BYTES];
     uint32_t number = emdf_read(panel->file, panel->length, table, sizeof table, answer);
     size_t place;
     if (number) {
@@ -267,7 +266,7 @@ static unsigned count_ones(uint64_t marks)
 
 static void press_commit(struct panel *panel)
 {
-    uint8_t answer[EMDF_VERDICT_ANSWER];
+    uint8_t answer[EMDF_VERDICT_ANSWER_BYTES];
     uint32_t number = emdf_verdict(panel->file, panel->length, panel->profile, answer);
     printf("verdict %s profile=%s ", number ? "refused" : "accepted", profile_name(panel));
     if (number) {

@@ -16,7 +16,7 @@ static int refused(const char *what, uint32_t number, const uint8_t *answer, siz
 
 int main(void)
 {
-    uint8_t is[EMDF_CLASS_ANSWER], verdict[EMDF_VERDICT_ANSWER], edit[EMDF_EDIT_ANSWER];
+    uint8_t is[EMDF_CLASS_ANSWER_BYTES], verdict[EMDF_VERDICT_ANSWER_BYTES], edit[EMDF_EDIT_ANSWER_BYTES];
     size_t length = fread(carrier, 1, sizeof carrier, stdin);
     uint32_t number = emdf_classify(carrier, length, is);
 

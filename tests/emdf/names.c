@@ -6,6 +6,8 @@
 
 #include "emdf_names.h"
 
+enum { CARRIER = 64 }; /* bytes enough for each carrier here */
+
 static int failures;
 
 static void expect(int is_so, const char *what)
@@ -73,7 +75,7 @@ static void check_settings(void)
     SETTING(9, EMDF_SETTINGS_PROCESSING_ALLOWED);
     expect(!emdf_setting_name(EMDF_SETTING_COUNT), "a setting too many");
     for (i = 0; i < EMDF_SETTING_COUNT; i++) {
-        uint8_t settings[EMDF_SETTINGS] = {0};
+        uint8_t settings[EMDF_SETTINGS_BYTES] = {0};
         uint64_t value = 7;
         emdf_put_setting(settings, i, 1, 5);
         expect(emdf_setting(settings, i, &value) && value == 5, "a setting that is put is there");
@@ -95,22 +97,27 @@ static void check_refusals(void)
     expect(!emdf_refusal_figure(EMDF_EXCESS_PADDING, 1) && !emdf_refusal_figure(EMDF_EXCESS_PADDING, 2), "11 has one figure");
 }
 
+/* A payload more in a carrier; what it then is takes the place of what it was. */
+static void insert(uint8_t *carrier, size_t *length, size_t place, uint64_t id, const uint8_t *settings, const char *what)
+{
+    uint8_t next[CARRIER] = {0}, answer[EMDF_EDIT_ANSWER_BYTES], none[1] = {0};
+    expect(!emdf_edit_insert(carrier, *length, place, id, settings, EMDF_SETTINGS_BYTES, none, 0, next, sizeof next, answer), what);
+    *length = (size_t)emdf_word(answer, EMDF_WRITTEN_LENGTH);
+    memcpy(carrier, next, sizeof next);
+}
+
 /* A payload of each constant goes into a carrier, and two of the profile's are what strict accepts. */
 static void check_constants(void)
 {
-    static uint8_t carriers[4][64];
-    uint8_t answer[EMDF_EDIT_ANSWER], verdict[EMDF_VERDICT_ANSWER];
+    uint8_t carrier[CARRIER], answer[EMDF_EDIT_ANSWER_BYTES], verdict[EMDF_VERDICT_ANSWER_BYTES];
     const uint8_t primary[1] = {0}, none[1] = {0};
     size_t length;
-    expect(!emdf_blank(0, primary, 1, none, 0, carriers[0], 64, answer), "blank");
+    expect(!emdf_blank(0, primary, 1, none, 0, carrier, sizeof carrier, answer), "blank");
     length = (size_t)emdf_word(answer, EMDF_WRITTEN_LENGTH);
-    expect(!emdf_edit_insert(carriers[0], length, 0, 1, emdf_settings_bare, EMDF_SETTINGS, none, 0, carriers[1], 64, answer), "bare");
-    length = (size_t)emdf_word(answer, EMDF_WRITTEN_LENGTH);
-    expect(!emdf_edit_insert(carriers[1], length, 0, 11, emdf_settings_profile, EMDF_SETTINGS, none, 0, carriers[2], 64, answer), "OAMD");
-    length = (size_t)emdf_word(answer, EMDF_WRITTEN_LENGTH);
-    expect(!emdf_edit_insert(carriers[2], length, 1, 14, emdf_settings_profile, EMDF_SETTINGS, none, 0, carriers[3], 64, answer), "JOC");
-    length = (size_t)emdf_word(answer, EMDF_WRITTEN_LENGTH);
-    expect(!emdf_verdict(carriers[3], length, EMDF_STRICT, verdict) && !emdf_word(verdict, EMDF_MARKS), "the profile's settings");
+    insert(carrier, &length, 0, 1, emdf_settings_bare, "bare");
+    insert(carrier, &length, 0, 11, emdf_settings_profile, "OAMD");
+    insert(carrier, &length, 1, 14, emdf_settings_profile, "JOC");
+    expect(!emdf_verdict(carrier, length, EMDF_STRICT, verdict) && !emdf_word(verdict, EMDF_MARKS), "the profile's settings");
 }
 
 int main(void)

@@ -179,8 +179,8 @@ for seed in range(200):
     case("random carrier %d and more" % seed, data, "trailing %s %d" % (lines[0].split()[1], len(data)))
 
 
-def run(program, data):
-    done = subprocess.run([program], input=data, capture_output=True, timeout=60)
+def run(program, data, *words):
+    done = subprocess.run([program, *words], input=data, capture_output=True, timeout=60)
     return done.stdout, done.stderr, done.returncode
 
 
@@ -205,6 +205,21 @@ def run_unreadable(program):
     return done.stdout, done.stderr[:16], done.returncode
 
 
+def run_into(program, **output):
+    """B, with an output that cannot be written; of standard error the start, since the reason is the system's text."""
+    done = subprocess.run([program], input=B, stderr=subprocess.PIPE, timeout=60, **output)
+    return done.stderr[:17], done.returncode
+
+
+def run_unwritable(program):
+    """Names of outputs, and what came."""
+    with open("/dev/full", "wb") as full:
+        yield "an output that is full", run_into(program, stdout=full)
+    yield "an output that is closed", run_into(program, preexec_fn=lambda: os.close(1))
+    with open("/dev/null", "rb") as unwritable:
+        yield "an output that is open for reading", run_into(program, stdout=unwritable)
+
+
 def results(program):
     """Each case's name, what came, and what was to come: standard output, standard error, exit status."""
     for name, data, lines in CASES:
@@ -212,6 +227,13 @@ def results(program):
     of_B = (b"parsed 11 0 1\n1 37 42 47 56 64\n", b"", 0)
     yield "B in three parts", run_slowly(program, [B[:1], B[1:5], B[5:]]), of_B
     yield "an input that cannot be read", run_unreadable(program), (b"", b"standard input: ", 0)
+    # A Rattle program has no exit status but 0.
+    usage = (b"", b"usage: emdfcheck <FILE\n", 0)
+    for words in (["b.emdf"], [""], ["-"], ["--help"], ["a", "b"]):
+        for data in (B, b""):
+            yield "%d bytes and the arguments %s" % (len(data), words), run(program, data, *words), usage
+    for name, got in run_unwritable(program):
+        yield name, got, (b"standard output: ", 0)
 
 
 def main(program):

@@ -1,18 +1,8 @@
-# The first instructions of the library's basic blocks, as "address function".
-# Its input: the names of the library's functions, one a line; then `objdump -d --no-show-raw-insn` of the linked program.
+# The first instructions of the library's basic blocks, as "address function". Runs after tests/c/functions.awk.
 
-FNR == NR { library[$1] = 1; next }
+/^[0-9a-f]+ <.*>:$/ { after = "call"; next }
 
-/^[0-9a-f]+ <.*>:$/ {
-    name = $0
-    sub(/^[^<]*</, "", name)
-    sub(/>:$/, "", name)
-    inside = (name in library)
-    after = "call"
-    next
-}
-
-!inside || $1 !~ /^[0-9a-f]+:$/ { next }
+$1 !~ /^[0-9a-f]+:$/ { next }
 
 {
     address = $1

@@ -2,16 +2,13 @@
 
 #include "cover.h"
 
-#include <signal.h>
-#include <stdint.h>
 #include <stdio.h>
 #include <stdlib.h>
-#include <string.h>
-#include <sys/mman.h>
 #include <ucontext.h>
-#include <unistd.h>
 
-enum { BLOCKS_MOST = 8192, NAME_MOST = 96, BREAKPOINT = 0xcc };
+#include "traps.h"
+
+enum { BLOCKS_MOST = 8192, NAME_MOST = 96 };
 
 struct block {
     uintptr_t address;
@@ -79,15 +76,6 @@ static void read_blocks(const char *path)
     qsort(blocks, blocks_in_all, sizeof blocks[0], by_address);
 }
 
-static int make_writable(void)
-{
-    uintptr_t page = (uintptr_t)sysconf(_SC_PAGESIZE);
-    uintptr_t low = blocks[0].address & ~(page - 1);
-    uintptr_t high = (blocks[blocks_in_all - 1].address + page) & ~(page - 1);
-
-    return mprotect((void *)low, high - low, PROT_READ | PROT_WRITE | PROT_EXEC) == 0;
-}
-
 static void set_breakpoints(void)
 {
     unsigned i;
@@ -101,17 +89,12 @@ static void set_breakpoints(void)
 
 void cover_start(const char *path)
 {
-    struct sigaction action;
-
     read_blocks(path);
     if (blocks_in_all == 0)
         return;
-    memset(&action, 0, sizeof action);
-    action.sa_sigaction = on_trap;
-    action.sa_flags = SA_SIGINFO;
-    sigaction(SIGTRAP, &action, NULL);
+    handle_signal(SIGTRAP, on_trap);
     /* Some systems forbid it; the checks hold without knowing what is reached. */
-    if (make_writable()) {
+    if (open_code(blocks[0].address, blocks[blocks_in_all - 1].address)) {
         set_breakpoints();
     } else {
         perror("fuzz: no breakpoints in the library");

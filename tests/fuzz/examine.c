@@ -6,7 +6,10 @@
 
 #include "lent.h"
 
-enum { ROOM_MOST = ROWS_MOST * EMDF_ROW + 1024 };
+enum {
+    ROOM_MOST = EMDF_PAYLOADS_MOST * EMDF_ROW_BYTES + 1024,
+    FIGURES_BYTES = 16 /* of a refusal's two */
+};
 
 struct outcome {
     uint32_t number;
@@ -31,15 +34,6 @@ static const struct request *present_request;
 static size_t present_room;
 static int is_new;
 
-static uint8_t *bytes_for(size_t size)
-{
-    uint8_t *p = malloc(size);
-
-    if (p == NULL)
-        exit(2);
-    return p;
-}
-
 /* Two fillings that differ in every byte: what a call leaves unwritten differs between its two runs. */
 void prepare_memory(void)
 {
@@ -51,10 +45,10 @@ void prepare_memory(void)
     for (side = AT_END; side <= AT_START; side++) {
         rooms[side] = filled_memory(ROOM_MOST, side == AT_END ? 0 : 255);
         answers[side] = filled_memory(ANSWER_MOST, side == AT_END ? 0 : 255);
-        kept[side] = bytes_for(ROOM_MOST);
+        kept[side] = must_have(malloc(ROOM_MOST));
     }
-    rows = bytes_for(ROOM_MOST);
-    edited_rows = bytes_for(ROOM_MOST);
+    rows = must_have(malloc(ROOM_MOST));
+    edited_rows = must_have(malloc(ROOM_MOST));
 }
 
 /* ---- failures */
@@ -205,13 +199,13 @@ static void check_class(const struct outcome *o, const struct reading *own, cons
     int is_right;
 
     if (class == EMDF_PARSED)
-        is_right = own->number == 0 && n == length && memcmp(o->answer + 8, own->answer, EMDF_READ_ANSWER) == 0;
+        is_right = own->number == 0 && n == length && memcmp(o->answer + 8, own->answer, EMDF_READ_ANSWER_BYTES) == 0;
     else if (class == EMDF_TRAILING_DATA)
         is_right = own->number == 0 && n < length && emdf_word(o->answer, 1) == n && emdf_word(o->answer, 2) == length;
     else if (class == EMDF_NON_EMDF)
         is_right = length < 2 || s->bytes[0] != 0x58 || s->bytes[1] != 0x38;
     else
-        is_right = o->number == own->number && memcmp(o->answer + 8, own->answer, 16) == 0;
+        is_right = o->number == own->number && memcmp(o->answer + 8, own->answer, FIGURES_BYTES) == 0;
     if (!is_right || (class != EMDF_MALFORMED && o->number != 0))
         failed("the class disagrees with the reading");
 }
@@ -224,7 +218,7 @@ static void check_reading(const struct request *r, const struct outcome *o, cons
 
     if (r->call == CLASSIFY)
         check_class(o, own, &r->source);
-    else if (own->number != 0 && (o->number != own->number || memcmp(o->answer, own->answer, 16) != 0))
+    else if (own->number != 0 && (o->number != own->number || memcmp(o->answer, own->answer, FIGURES_BYTES) != 0))
         failed("the refusal is not the reading's");
     else if (own->number == 0 && o->number >= 1 && o->number <= EMDF_NONZERO_PADDING)
         failed("a reading's refusal of a carrier that reads");
@@ -251,7 +245,7 @@ static struct slice protection(const struct reading *own, size_t word)
     struct slice s;
 
     s.length = (size_t)emdf_word(own->answer, word);
-    s.bytes = own->answer + 8 * (word + 1) + 16 - s.length;
+    s.bytes = own->answer + 8 * (word + 1) + EMDF_PROTECTION_BYTES - s.length;
     return s;
 }
 
@@ -271,7 +265,7 @@ static int has_payload(const struct request *r, const struct reading *left)
     if (row == NULL || (r->call == EDIT_INSERT && emdf_word(row, EMDF_ROW_ID) != r->number))
         return 0;
     found.bytes = settings_of_row(row);
-    found.length = EMDF_SETTINGS;
+    found.length = EMDF_SETTINGS_BYTES;
     if (r->call != EDIT_BODY && !are_equal(&r->settings, &found))
         return 0;
     found.length = body_of_row(row, edited, old_body);
@@ -319,7 +313,7 @@ static struct request undoing(const struct request *r, const struct reading *own
         if (r->call == EDIT_DROP)
             back.number = emdf_word(row, EMDF_ROW_ID);
         back.settings.bytes = settings_of_row(row);
-        back.settings.length = EMDF_SETTINGS;
+        back.settings.length = EMDF_SETTINGS_BYTES;
         back.body.bytes = old_body;
         back.body.length = body_of_row(row, r->source.bytes, old_body);
     }
@@ -364,7 +358,7 @@ static void check_edit(const struct request *r, const struct outcome *o, const s
 {
     static uint8_t carrier[SOURCE_MOST];
 
-    if (o->filled < 4 || o->filled > 65539)
+    if (o->filled < 4 || o->filled > EMDF_CARRIER_MOST)
         failed("a carrier of an impossible length");
     memcpy(carrier, o->bytes, o->filled);
     edited = carrier;
@@ -376,7 +370,7 @@ static void check_edit(const struct request *r, const struct outcome *o, const s
 
 int examine(const struct input *in)
 {
-    struct reading own;
+    struct reading own = UNREAD;
     struct request r;
     struct outcome o;
     int has_carrier = FACTS[in->bytes[AT_CALL] % CALLS].has_carrier;
@@ -386,8 +380,6 @@ int examine(const struct input *in)
     inputs_run++;
     is_new = 0;
     edited_length = 0;
-    memset(&own, 0, sizeof own);
-    own.number = EMDF_TRUNCATED_CONTAINER;
     if (has_carrier)
         read_carrier(in->bytes + HEAD, in->length - HEAD, &own, rows);
     r = request_of(in, &own, body, settings);

@@ -2,6 +2,8 @@
 
 #include <string.h>
 
+#include "input.h"
+
 static volatile uint8_t sink;
 
 static int is_edit(const struct request *r)
@@ -50,7 +52,7 @@ static uint32_t writes_row_on_refusal(const struct request *r)
 {
     uint32_t number = make_call(r);
 
-    if (r->call == READ && number != 0 && r->room_length >= EMDF_ROW)
+    if (r->call == READ && number != 0 && r->room_length >= EMDF_ROW_BYTES)
         r->room[0] ^= 1;
     return number;
 }
@@ -95,8 +97,8 @@ static uint32_t reads_past_body(const struct request *r)
 
 static uint32_t reads_past_settings(const struct request *r)
 {
-    if (r->call == EDIT_SETTINGS && r->settings.length < EMDF_SETTINGS)
-        sink = r->settings.bytes[EMDF_SETTINGS - 1];
+    if (r->call == EDIT_SETTINGS && r->settings.length < EMDF_SETTINGS_BYTES)
+        sink = r->settings.bytes[EMDF_SETTINGS_BYTES - 1];
     return make_call(r);
 }
 
@@ -171,7 +173,7 @@ static uint32_t keeps_state(const struct request *r)
 /* Asks all questions as it should, and then copies the source. */
 static uint32_t copies_source(const struct request *r)
 {
-    static uint8_t aside[70000];
+    static uint8_t aside[SOURCE_MOST];
     struct request other = *r;
     uint32_t number;
 
@@ -199,7 +201,7 @@ static uint32_t flips_body_bit(const struct request *r)
 /* The payload is put in with the bytes of its body in another order. */
 static uint32_t turns_body(const struct request *r)
 {
-    static uint8_t turned[70000];
+    static uint8_t turned[BODY_MOST];
     struct request other = *r;
     size_t i;
 

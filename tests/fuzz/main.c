@@ -1,5 +1,5 @@
 /* A fuzzer for the library: inputs that reach a new block or a new outcome are kept and changed further. */
-#define _GNU_SOURCE /* for sigaltstack and setitimer beside C99 */
+#define _GNU_SOURCE /* for signals and setitimer beside C99 */
 
 #include <inttypes.h>
 #include <signal.h>
@@ -8,16 +8,16 @@
 #include <string.h>
 #include <sys/time.h>
 #include <sys/wait.h>
-#include <time.h>
 #include <unistd.h>
 
+#include "clock.h"
 #include "cover.h"
 #include "examine.h"
 #include "faults.h"
 #include "mutate.h"
-#include "seeds.h"
+#include "traps.h"
 
-enum { CORPUS_MOST = 8192, CARRIERS_MOST = 512 };
+enum { INPUTS_KEPT = 8192, CARRIERS_KEPT = 512 };
 
 struct options {
     double seconds;
@@ -27,39 +27,28 @@ struct options {
     const char *replay, *blocks, *failure;
 };
 
-struct run {
-    struct random random;
-    struct pool corpus, carriers;
-    struct input input;
-    double until;
-    uint64_t inputs_most;
-};
-
-static double now(void)
-{
-    struct timespec t;
-
-    clock_gettime(CLOCK_MONOTONIC, &t);
-    return (double)t.tv_sec + (double)t.tv_nsec / 1e9;
-}
 
 /* ---- calls that don't come back */
 
 /* Seconds of the processor's time that one call may take. */
 static int patience = 10;
 
-static void on_fault(int number)
+static void on_fault(int number, siginfo_t *info, void *context)
 {
+    (void)info;
+    (void)context;
     signal(number, SIG_DFL);
     failed(number == SIGSEGV || number == SIGBUS ? "memory was touched that was not lent" : "a call was stopped by a signal");
 }
 
-static void on_tick(int number)
+static void on_tick(int number, siginfo_t *info, void *context)
 {
     static uint64_t seen;
     static int ticks;
 
     (void)number;
+    (void)info;
+    (void)context;
     ticks = seen == calls_made ? ticks + 1 : 0;
     seen = calls_made;
     if (ticks >= patience)
@@ -68,74 +57,46 @@ static void on_tick(int number)
 
 static void catch_signals(void)
 {
-    static char stack[1 << 16];
     static const int faults[] = {SIGSEGV, SIGBUS, SIGILL, SIGFPE};
     struct itimerval second = {{1, 0}, {1, 0}};
-    struct sigaction action;
-    stack_t own;
     size_t i;
 
-    memset(&own, 0, sizeof own);
-    own.ss_sp = stack;
-    own.ss_size = sizeof stack;
-    sigaltstack(&own, NULL);
-    memset(&action, 0, sizeof action);
-    action.sa_flags = SA_ONSTACK;
-    action.sa_handler = on_fault;
     for (i = 0; i < sizeof faults / sizeof faults[0]; i++)
-        sigaction(faults[i], &action, NULL);
-    action.sa_handler = on_tick;
-    sigaction(SIGVTALRM, &action, NULL);
+        handle_signal(faults[i], on_fault);
+    handle_signal(SIGVTALRM, on_tick);
     setitimer(ITIMER_VIRTUAL, &second, NULL);
 }
 
 /* ---- the run */
 
-static void try_input(struct run *run)
+static void try_input(void *with, const struct input *in)
 {
+    struct corpus *corpus = with;
     unsigned reached = blocks_reached;
-    int is_new = examine(&run->input);
+    int is_new = examine(in);
 
     if (is_new || blocks_reached != reached)
-        keep(&run->corpus, &run->random, run->input.bytes, run->input.length);
+        keep_input(corpus, in);
     /* Carriers that edits leave are inputs that no flip of bits finds. */
-    if (edited_length > 0 && edited_length <= 4096 && draw(&run->random) % 64 == 0)
-        keep(&run->carriers, &run->random, edited, edited_length);
+    if (edited_length > 0 && edited_length <= 4096 && draw(&corpus->random) % 64 == 0)
+        keep_carrier(corpus, edited, edited_length);
 }
 
-static void try_seed(struct run *run)
+/* How many inputs were kept. */
+static size_t fuzz(uint64_t seed, double seconds, uint64_t inputs)
 {
-    keep(&run->corpus, &run->random, run->input.bytes, run->input.length);
-    try_input(run);
-}
+    static struct input in;
+    struct corpus corpus = new_corpus(seed, INPUTS_KEPT, CARRIERS_KEPT);
+    double until = now() + seconds;
 
-static void take_seed(void *with, const uint8_t *bytes, size_t length)
-{
-    struct run *run = with;
-    unsigned call;
-
-    keep(&run->carriers, &run->random, bytes, length);
-    for (call = 0; call < CALLS; call++) {
-        plain_input(&run->input, call, bytes, length);
-        try_seed(run);
-        large_input(&run->input, call, bytes, length);
-        try_seed(run);
+    if (emdf_version() != EMDF_VERSION)
+        failed("the library has another version than its header");
+    add_seeds(&corpus, EMDF_CARRIER_MOST, try_input, &corpus);
+    while (inputs_run < inputs && (inputs_run % 64 != 0 || now() < until)) {
+        mutate(&in, &corpus);
+        try_input(&corpus, &in);
     }
-}
-
-static void fuzz(struct run *run, uint64_t seed, double seconds, uint64_t inputs)
-{
-    memset(run, 0, sizeof *run);
-    run->random.state = seed;
-    run->corpus.most = CORPUS_MOST;
-    run->carriers.most = CARRIERS_MOST;
-    run->until = now() + seconds;
-    run->inputs_most = inputs;
-    seed_carriers(take_seed, run);
-    while (inputs_run < run->inputs_most && (inputs_run % 64 != 0 || now() < run->until)) {
-        mutate(&run->input, &run->random, &run->corpus, &run->carriers);
-        try_input(run);
-    }
+    return corpus.inputs.count;
 }
 
 static unsigned outcomes_met(void)
@@ -160,10 +121,9 @@ static void print_outcomes_missed(void)
 
 static int run_fuzz(const struct options *o)
 {
-    static struct run run;
     double start = now();
+    size_t kept = fuzz(o->seed, o->seconds, o->inputs);
 
-    fuzz(&run, o->seed, o->seconds, o->inputs);
     if (o->shows_missed) {
         cover_print_missed();
         print_outcomes_missed();
@@ -171,7 +131,7 @@ static int run_fuzz(const struct options *o)
     printf("fuzz: seed %" PRIu64 ", %.1f s, %" PRIu64 " inputs, %" PRIu64
            " calls, blocks %u of %u, outcomes %u of %u, corpus %zu, 0 failures\n",
            o->seed, now() - start, inputs_run, calls_made, blocks_reached, blocks_in_all, outcomes_met(), outcomes_in_all(),
-           run.corpus.count);
+           kept);
     return 0;
 }
 
@@ -202,7 +162,6 @@ enum { CHECK_SECONDS = 20, CHECK_INPUTS = 400000, CONTROL_INPUTS = 20000 };
 /* Runs in a process of its own, since a failure ends the process; its first line goes to `line`. Returns its status. */
 static int run_apart(uint32_t (*call)(const struct request *), uint64_t seed, uint64_t inputs, char *line, size_t size)
 {
-    static struct run run;
     int ends[2], status = -1;
     FILE *from;
     pid_t child;
@@ -214,7 +173,7 @@ static int run_apart(uint32_t (*call)(const struct request *), uint64_t seed, ui
         library_call = call;
         patience = 2;
         catch_signals();
-        fuzz(&run, seed, CHECK_SECONDS, inputs);
+        fuzz(seed, CHECK_SECONDS, inputs);
         /* Breakpoints that aren't met would leave the fuzzer without a guide. */
         if (blocks_reached < blocks_in_all / 2)
             failed("few blocks were reached");

@@ -1,5 +1,5 @@
 # An upper bound of each exported call's stack, from the machine code alone: the frames along the deepest chain of calls, as
-# "function bytes". Its input: the names of the library's functions, one a line; then `objdump -d --no-show-raw-insn`.
+# "function bytes". Runs after tests/c/functions.awk.
 
 function hex(text,    i, v) {
     for (i = 3; i <= length(text); i++)
@@ -24,21 +24,13 @@ function depth(f, path,    list, n, i, d, deepest) {
     return (8 + 8 * pushed[f] + taken[f]) * (f in is_repeated ? 31 : 1) + deepest
 }
 
-FNR == NR { library[$1] = 1; next }
-
 /^[0-9a-f]+ <.*>:$/ {
-    name = $0
-    sub(/^[^<]*</, "", name)
-    sub(/>:$/, "", name)
-    inside = (name in library)
-    if (inside) {
-        pushed[name] = taken[name] = 0
-        calls[name] = ""
-    }
+    pushed[name] = taken[name] = 0
+    calls[name] = ""
     next
 }
 
-!inside || $1 !~ /^[0-9a-f]+:$/ { next }
+$1 !~ /^[0-9a-f]+:$/ { next }
 
 $2 == "push" { pushed[name]++ }
 

@@ -2,22 +2,21 @@
    Small inputs are also run step by step, which tells how far down the stack pointer went. */
 #define _GNU_SOURCE /* for the registers in a signal's context */
 
-#include <signal.h>
 #include <stdio.h>
 #include <stdlib.h>
 #include <string.h>
-#include <sys/mman.h>
 #include <ucontext.h>
-#include <unistd.h>
 
+#include "lent.h"
 #include "mutate.h"
 #include "seeds.h"
+#include "traps.h"
 
 #if !defined(__x86_64__)
 #error "the stack is measured by breakpoints of x86-64"
 #endif
 
-enum { STACK = 1 << 15, BREAKPOINT = 0xcc, ROOM = 70000 + 600 * EMDF_ROW };
+enum { STACK = 1 << 15, ROOM = SOURCE_MOST + 600 * EMDF_ROW_BYTES };
 
 typedef void (*code)(void);
 
@@ -89,36 +88,13 @@ static void on_trap(int number, siginfo_t *info, void *context)
     }
 }
 
-static void catch_traps(void)
-{
-    static char own[1 << 16];
-    struct sigaction action;
-    stack_t s;
-
-    memset(&s, 0, sizeof s);
-    s.ss_sp = own;
-    s.ss_size = sizeof own;
-    sigaltstack(&s, NULL);
-    memset(&action, 0, sizeof action);
-    action.sa_sigaction = on_trap;
-    action.sa_flags = SA_SIGINFO | SA_ONSTACK;
-    sigaction(SIGTRAP, &action, NULL);
-}
-
-static void make_writable(uint8_t *at)
-{
-    uintptr_t page = (uintptr_t)sysconf(_SC_PAGESIZE), low = (uintptr_t)at & ~(page - 1);
-
-    if (mprotect((void *)low, page, PROT_READ | PROT_WRITE | PROT_EXEC) != 0) {
-        perror("a breakpoint in the library");
-        exit(2);
-    }
-}
-
 static void set_breakpoint(enum call call)
 {
     memcpy(&entry, &ENTRIES[call], sizeof entry);
-    make_writable(entry);
+    if (!open_code((uintptr_t)entry, (uintptr_t)entry)) {
+        perror("a breakpoint in the library");
+        exit(2);
+    }
     entry_byte = *entry;
     *(volatile uint8_t *)entry = BREAKPOINT;
 }
@@ -175,15 +151,12 @@ static void measure(const struct request *r)
 /* ---- the inputs */
 
 /* With room for what is written, and with none. */
-static void measure_input(const struct input *in)
+static void measure_input(void *with, const struct input *in)
 {
     static uint8_t body[BODY_MOST], settings[SETTINGS_MOST];
-    struct reading unread;
-    struct request r;
+    struct request r = request_of(in, &UNREAD, body, settings);
 
-    memset(&unread, 0, sizeof unread);
-    unread.number = EMDF_TRUNCATED_CONTAINER;
-    r = request_of(in, &unread, body, settings);
+    (void)with;
     r.room_length = ROOM;
     measure(&r);
     r.room_length = 0;
@@ -192,73 +165,27 @@ static void measure_input(const struct input *in)
 
 static void measure_carrier(void *with, const uint8_t *bytes, size_t length)
 {
-    static struct input in;
-    unsigned call;
-
-    (void)with;
-    for (call = 0; call < CALLS; call++) {
-        plain_input(&in, call, bytes, length);
-        measure_input(&in);
-        large_input(&in, call, bytes, length);
-        measure_input(&in);
-        /* Ids, key ids and group ids of 64 bits in a body that fits. */
-        in.bytes[AT_BODY_KIND] = 3;
-        measure_input(&in);
-    }
-}
-
-struct corpus {
-    struct pool inputs, carriers;
-    struct random random;
-};
-
-static void collect(void *with, const uint8_t *bytes, size_t length)
-{
-    static struct input in;
-    struct corpus *c = with;
-    unsigned call;
-
-    if (length > 4096)
-        return;
-    keep(&c->carriers, &c->random, bytes, length);
-    for (call = 0; call < CALLS; call++) {
-        large_input(&in, call, bytes, length);
-        keep(&c->inputs, &c->random, in.bytes, in.length);
-    }
+    each_input(bytes, length, measure_input, with);
 }
 
 static void measure_changed(unsigned inputs)
 {
     static struct input in;
-    struct corpus c;
+    struct corpus corpus = new_corpus(1, 1024, 1024);
 
-    memset(&c, 0, sizeof c);
-    c.inputs.most = c.carriers.most = 1024;
-    c.random.state = 1;
-    seed_carriers(collect, &c);
+    add_seeds(&corpus, 4096, NULL, NULL);
     while (inputs-- > 0) {
-        mutate(&in, &c.random, &c.inputs, &c.carriers);
-        measure_input(&in);
+        mutate(&in, &corpus);
+        measure_input(NULL, &in);
     }
 }
 
 static void measure_named(const char *name, unsigned payloads, size_t body_length, int is_wide)
 {
-    static uint8_t carrier[CARRIER_MOST];
+    static uint8_t carrier[EMDF_CARRIER_MOST];
 
     present_name = name;
     measure_carrier(NULL, carrier, seed_carrier(carrier, payloads, body_length, is_wide));
-}
-
-/* An unreadable page lies below, so a call that needs more stops the run. */
-static uint8_t *new_stack(void)
-{
-    size_t page = (size_t)sysconf(_SC_PAGESIZE);
-    uint8_t *p = mmap(NULL, page + STACK, PROT_READ | PROT_WRITE, MAP_PRIVATE | MAP_ANONYMOUS, -1, 0);
-
-    if (p == MAP_FAILED || mprotect(p, page, PROT_NONE) != 0)
-        exit(2);
-    return p + page;
 }
 
 /* What frames.awk found: a name and a number a line. */
@@ -316,8 +243,9 @@ static int print_table(void)
 
 int main(int count, char **words)
 {
-    stack = new_stack();
-    catch_traps();
+    /* An unreadable page lies below, so a call that needs more stops the run. */
+    stack = guarded_memory(STACK);
+    handle_signal(SIGTRAP, on_trap);
     if (count > 1)
         read_frames(words[1]);
     measure_all();

@@ -1,14 +1,12 @@
 /* The time of each call on carriers of doubling length: eight times the carrier has to take some eight times as long. */
-#define _POSIX_C_SOURCE 199309L /* for clock_gettime */
-
 #include <stdio.h>
 #include <string.h>
-#include <time.h>
 
+#include "clock.h"
 #include "input.h"
 #include "seeds.h"
 
-enum { SIZES = 4, ROUNDS = 15, ROOM = 4000 * EMDF_ROW };
+enum { SIZES = 4, ROUNDS = 15, ROOM = 4000 * EMDF_ROW_BYTES };
 
 struct shape {
     const char *name;
@@ -22,19 +20,11 @@ static const struct shape SHAPES[2][SIZES] = {
     {{"body", 1, 8000}, {"body", 1, 16000}, {"body", 1, 32000}, {"body", 1, 64000}},
 };
 
-static uint8_t carriers[2][SIZES][CARRIER_MOST];
+static uint8_t carriers[2][SIZES][EMDF_CARRIER_MOST];
 static size_t lengths[2][SIZES];
 static uint8_t room[ROOM];
 
-static double now(void)
-{
-    struct timespec t;
-
-    clock_gettime(CLOCK_MONOTONIC, &t);
-    return (double)t.tv_sec * 1e9 + (double)t.tv_nsec;
-}
-
-/* The best of some rounds: what else runs on the machine only adds. */
+/* In nanoseconds, the best of some rounds: what else runs on the machine only adds. */
 static double time_of(struct request *r)
 {
     double best = 0;
@@ -43,7 +33,7 @@ static double time_of(struct request *r)
     for (i = 0; i < ROUNDS; i++) {
         double start = now(), taken;
         make_call(r);
-        taken = now() - start;
+        taken = (now() - start) * 1e9;
         best = i == 0 || taken < best ? taken : best;
     }
     return best;
@@ -51,7 +41,7 @@ static double time_of(struct request *r)
 
 static void time_call(enum call call, int kind)
 {
-    static uint8_t body[3] = {1, 2, 3}, settings[EMDF_SETTINGS], answer[ANSWER_MOST];
+    static uint8_t body[3] = {1, 2, 3}, settings[EMDF_SETTINGS_BYTES], answer[ANSWER_MOST];
     double first = 0, last = 0;
     int i;
 

@@ -1,27 +1,27 @@
 /* The exported calls from several threads at once: every answer has to be the one that a single thread got before. */
-#define _GNU_SOURCE /* for pthread barriers and clock_gettime beside C99 */
+#define _GNU_SOURCE /* for pthread barriers beside C99 */
 
 #include <inttypes.h>
 #include <pthread.h>
 #include <stdio.h>
 #include <stdlib.h>
 #include <string.h>
-#include <sys/mman.h>
-#include <time.h>
 
+#include "clock.h"
+#include "lent.h"
 #include "mutate.h"
-#include "seeds.h"
 
 enum {
     THREADS = 8,
     CASES = 6000,
     ROOM = 200000,
     ROUNDS_MOST = 10000,
+    SHARED = 64 << 20, /* bytes for the slices of all cases */
     MARGIN = 64, /* bytes beside the room and the answer that have to stay */
     FILLING = 0x5a
 };
 
-/* A call and what came of it on one thread. Its slices lie in memory that nobody can write while the threads run. */
+/* A call and what came of it on one thread. Its slices lie in memory that the library can't write. */
 struct known {
     struct request request;
     uint32_t number;
@@ -46,17 +46,8 @@ static struct known cases[CASES];
 static size_t case_count;
 static pthread_barrier_t start;
 
-static uint8_t *shared;
+static struct shown shared;
 static size_t shared_used;
-enum { SHARED = 64 << 20 };
-
-static double now(void)
-{
-    struct timespec t;
-
-    clock_gettime(CLOCK_MONOTONIC, &t);
-    return (double)t.tv_sec + (double)t.tv_nsec / 1e9;
-}
 
 /* ---- one call */
 
@@ -109,83 +100,53 @@ static uint32_t call_once(const struct request *asked, struct workplace *work, u
 
 static const uint8_t *share(const uint8_t *bytes, size_t length)
 {
-    uint8_t *at = shared + shared_used;
+    size_t at = shared_used;
 
-    if (shared_used + length > SHARED)
+    if (at + length > shared.size)
         return NULL;
     if (length > 0)
-        memcpy(at, bytes, length);
+        memcpy(shared.written + at, bytes, length);
     shared_used += length;
-    return at;
+    return shared.read + at;
 }
 
 static size_t room_for(const struct request *r, const struct input *in)
 {
-    size_t room = r->call == READ ? 40 * EMDF_ROW : r->source.length + r->body.length + 100;
+    size_t room = r->call == READ ? 40 * EMDF_ROW_BYTES : r->source.length + r->body.length + 100;
 
     if (in->bytes[AT_ROOM] % 4 == 3)
         room /= 4;
     return room < ROOM ? room : ROOM;
 }
 
-static void add_case(const struct input *in, struct workplace *work)
+static void add_case(void *with, const struct input *in)
 {
     static uint8_t body[BODY_MOST], settings[SETTINGS_MOST];
-    struct reading unread;
     struct known *k = &cases[case_count];
 
-    memset(&unread, 0, sizeof unread);
-    unread.number = EMDF_TRUNCATED_CONTAINER;
     if (case_count == CASES)
         return;
-    k->request = request_of(in, &unread, body, settings);
+    k->request = request_of(in, &UNREAD, body, settings);
     k->request.room_length = FACTS[k->request.call].has_room ? room_for(&k->request, in) : 0;
     k->request.source.bytes = share(k->request.source.bytes, k->request.source.length);
     k->request.body.bytes = share(k->request.body.bytes, k->request.body.length);
     k->request.settings.bytes = share(k->request.settings.bytes, k->request.settings.length);
     if (k->request.source.bytes == NULL || k->request.body.bytes == NULL || k->request.settings.bytes == NULL)
         return;
-    k->number = call_once(&k->request, work, &k->digest);
+    k->number = call_once(&k->request, with, &k->digest);
     case_count++;
-}
-
-struct making {
-    struct pool corpus, carriers;
-    struct random random;
-    struct workplace *work;
-};
-
-static void take_seed(void *with, const uint8_t *bytes, size_t length)
-{
-    static struct input in;
-    struct making *m = with;
-    unsigned call;
-
-    keep(&m->carriers, &m->random, bytes, length);
-    for (call = 0; call < CALLS; call++) {
-        plain_input(&in, call, bytes, length);
-        keep(&m->corpus, &m->random, in.bytes, in.length);
-        add_case(&in, m->work);
-        large_input(&in, call, bytes, length);
-        keep(&m->corpus, &m->random, in.bytes, in.length);
-        add_case(&in, m->work);
-    }
 }
 
 static void make_cases(struct workplace *work)
 {
     static struct input in;
-    struct making m;
+    struct corpus corpus = new_corpus(1, 1024, 1024);
     size_t tries;
 
-    memset(&m, 0, sizeof m);
-    m.corpus.most = m.carriers.most = 1024;
-    m.random.state = 1;
-    m.work = work;
-    seed_carriers(take_seed, &m);
+    add_seeds(&corpus, EMDF_CARRIER_MOST, add_case, work);
     for (tries = 0; tries < 4 * CASES && case_count < CASES; tries++) {
-        mutate(&in, &m.random, &m.corpus, &m.carriers);
-        add_case(&in, work);
+        mutate(&in, &corpus);
+        add_case(work, &in);
     }
 }
 
@@ -243,11 +204,7 @@ static void *work_through(void *with)
 
 static struct workplace *new_workplace(void)
 {
-    struct workplace *work = malloc(sizeof *work);
-
-    if (work == NULL)
-        exit(2);
-    return work;
+    return must_have(malloc(sizeof(struct workplace)));
 }
 
 static void run_threads(struct worker *workers, double seconds)
@@ -290,12 +247,8 @@ int main(int count, char **words)
 
     if (is_self_check)
         library_call = call_with_state;
-    shared = mmap(NULL, SHARED, PROT_READ | PROT_WRITE, MAP_PRIVATE | MAP_ANONYMOUS, -1, 0);
-    if (shared == MAP_FAILED)
-        return 2;
+    shared = shown_memory(SHARED);
     make_cases(new_workplace());
-    /* A call that writes to a source from now on stops the run. */
-    mprotect(shared, SHARED, PROT_READ);
     run_threads(workers, seconds);
     differences = report(workers, seconds);
     if (is_self_check)

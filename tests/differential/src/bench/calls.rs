@@ -2,7 +2,7 @@
 
 use crate::exported;
 use crate::subjects::{Input, Subject};
-use differential::carrier::{Ask, ROW};
+use differential::carrier::{Ask, CLASS_WORDS, EDIT_WORDS, ROW, SUMMARY_WORDS, VERDICT_WORDS};
 use differential::case::ACCEPTED;
 use differential::facts::{self, Facts};
 use differential::plain::{self, Step};
@@ -148,8 +148,8 @@ fn steps(carrier: &[u8]) -> Vec<Step> {
 
 fn library_read(bytes: &[u8], table: &mut [u8]) -> u32 {
     let bytes = black_box(bytes);
-    let mut answer = [0; 72];
-    // SAFETY: both slices are alive, and the answer has its 72 bytes.
+    let mut answer = [0; 8 * SUMMARY_WORDS];
+    // SAFETY: both slices are alive, and the answer has the bytes it wants.
     let number = unsafe {
         emdf_read(
             bytes.as_ptr(),
@@ -171,8 +171,8 @@ fn rust_read(bytes: &[u8]) {
 /// The number returned, and the class.
 fn library_classify(bytes: &[u8]) -> (u32, u64) {
     let bytes = black_box(bytes);
-    let mut answer = [0; 80];
-    // SAFETY: the slice is alive, and the answer has its 80 bytes.
+    let mut answer = [0; 8 * CLASS_WORDS];
+    // SAFETY: the slice is alive, and the answer has the bytes it wants.
     let number = unsafe { emdf_classify(bytes.as_ptr(), bytes.len(), answer.as_mut_ptr()) };
     let class = u64::from(black_box(answer)[7]);
     (number, class)
@@ -185,8 +185,8 @@ fn rust_classify(bytes: &[u8]) {
 
 fn library_verdict(bytes: &[u8]) -> u32 {
     let bytes = black_box(bytes);
-    let mut answer = [0; 32];
-    // SAFETY: the slice is alive, and the answer has its 32 bytes.
+    let mut answer = [0; 8 * VERDICT_WORDS];
+    // SAFETY: the slice is alive, and the answer has the bytes it wants.
     let number = unsafe { emdf_verdict(bytes.as_ptr(), bytes.len(), STRICT, answer.as_mut_ptr()) };
     black_box(answer);
     number
@@ -204,8 +204,8 @@ fn rust_verdict(carrier: &[u8]) {
 fn library_edit(carrier: &[u8], step: &Step, destination: &mut [u8]) -> u32 {
     let carrier = black_box(carrier);
     let memory = (destination.as_mut_ptr(), destination.len());
-    let mut answer = [0; 16];
-    // SAFETY: the destination is alive, and the answer has its 16 bytes.
+    let mut answer = [0; 8 * EDIT_WORDS];
+    // SAFETY: the destination is alive, and the answer has the bytes it wants.
     let number =
         unsafe { exported::edit(carrier, step, step.slices(), memory, answer.as_mut_ptr()) };
     black_box(answer);

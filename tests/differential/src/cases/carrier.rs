@@ -41,15 +41,22 @@ pub const B: [u8; 11] = [
 /// A payload of the fewest bits: an id, five flags and the size of an empty body.
 const LEAST_PAYLOAD: usize = 19;
 
-const SUMMARY_WORDS: usize = 9;
+/// The numbers of each answer.
+pub const SUMMARY_WORDS: usize = 9;
+pub const CLASS_WORDS: usize = 1 + SUMMARY_WORDS;
+pub const MOVE_WORDS: usize = 2;
+pub const VERDICT_WORDS: usize = 4;
+pub const EDIT_WORDS: usize = 2;
+
+/// Those of the longest.
+pub const MOST_WORDS: usize = CLASS_WORDS;
+
+/// The numbers of settings, and of a row of a table.
 pub const SETTINGS_WORDS: usize = 18;
 pub const ROW_WORDS: usize = 27;
 
 /// The bytes of one row of a table.
 pub const ROW: usize = 8 * ROW_WORDS;
-
-/// The numbers of the longest answer.
-pub const MOST_WORDS: usize = 10;
 
 /// What is asked of a carrier; lengths are in bytes.
 #[derive(Clone, Copy, Debug, Eq, PartialEq)]
@@ -75,10 +82,10 @@ impl Ask {
     #[must_use]
     pub fn words(self) -> usize {
         match self {
-            Self::Classify => MOST_WORDS,
+            Self::Classify => CLASS_WORDS,
             Self::Read { .. } => SUMMARY_WORDS,
-            Self::MoveBody { .. } => 2,
-            Self::Verdict { .. } => 4,
+            Self::MoveBody { .. } => MOVE_WORDS,
+            Self::Verdict { .. } => VERDICT_WORDS,
         }
     }
 

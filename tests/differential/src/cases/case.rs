@@ -9,6 +9,9 @@ pub const INVALID_BOUNDS: u32 = 5;
 pub const TOO_MANY_GROUPS: u32 = 6;
 pub const VALUE_TOO_LARGE: u32 = 7;
 
+/// The numbers of a bit or field call's answer.
+pub const BIT_WORDS: usize = 6;
+
 /// The widest read.
 pub const MAX_WIDTH: usize = 64;
 
@@ -110,11 +113,11 @@ impl Request {
     }
 }
 
-/// What a call returns and the six numbers that it writes.
+/// What a call returns and the numbers that it writes.
 #[derive(Clone, Copy, Debug, Eq, PartialEq)]
 pub struct Answer {
     pub number: u32,
-    pub words: [u64; 6],
+    pub words: [u64; BIT_WORDS],
 }
 
 impl Answer {

@@ -210,19 +210,8 @@ impl Desk {
         }
     }
 
-    /// What both sides said, where that is not the same in every figure and byte.
     fn disagreement(&mut self, ask: Ask, facts: &Facts) -> Option<String> {
-        let replied = library::reply(self.place.bytes(), ask, &mut self.lent);
-        let written = facts.written(ask);
-        let agrees =
-            replied.reply == facts.reply(ask) && replied.frame_intact && self.lent.holds(written);
-        if agrees {
-            self.lent.restore(written.len());
-            return None;
-        }
-        let said = both_sides(ask, facts, &replied, &self.lent);
-        self.lent.restore_all();
-        Some(said)
+        disagreement(self.place.bytes(), ask, facts, &mut self.lent)
     }
 
     fn disagreement_on(&mut self, case: &CarrierCase) -> Option<String> {
@@ -231,7 +220,21 @@ impl Desk {
     }
 }
 
-fn class_name(class: Class) -> &'static str {
+/// What both sides said, where that is not the same in every figure and byte.
+pub fn disagreement(bytes: &[u8], ask: Ask, facts: &Facts, lent: &mut Lent) -> Option<String> {
+    let replied = library::reply(bytes, ask, lent);
+    let written = facts.written(ask);
+    if replied.reply == facts.reply(ask) && replied.frame_intact && lent.holds(written) {
+        lent.restore(written.len());
+        return None;
+    }
+    let said = both_sides(ask, facts, &replied, lent);
+    lent.restore_all();
+    Some(said)
+}
+
+#[must_use]
+pub fn class_name(class: Class) -> &'static str {
     match class {
         Class::NonEmdf => NON_EMDF,
         Class::Parsed => PARSED,

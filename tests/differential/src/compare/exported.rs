@@ -79,7 +79,7 @@ extern "C" {
 ///
 /// # Safety
 ///
-/// The destination has its length in bytes, and the answer 16.
+/// The destination has its length in bytes, and the answer 8 for each of `EDIT_WORDS`.
 pub unsafe fn edit(
     source: &[u8],
     step: &Step,

@@ -3,17 +3,18 @@
 /// What stands in the answer's place and around it before a call.
 const UNWRITTEN: u8 = 0x5a;
 
+/// For an answer of so many numbers.
 #[repr(C, align(8))]
-pub struct Frame<const BYTES: usize> {
+pub struct Frame<const WORDS: usize> {
     before: [u8; 13],
-    answer: [u8; BYTES],
+    answer: [[u8; 8]; WORDS],
     after: [u8; 19],
 }
 
-impl<const BYTES: usize> Frame<BYTES> {
+impl<const WORDS: usize> Frame<WORDS> {
     pub const EMPTY: Self = Self {
         before: [UNWRITTEN; 13],
-        answer: [UNWRITTEN; BYTES],
+        answer: [[UNWRITTEN; 8]; WORDS],
         after: [UNWRITTEN; 19],
     };
 
@@ -30,9 +31,7 @@ impl<const BYTES: usize> Frame<BYTES> {
 
     /// The numbers of the answer, 8 bytes each, the most significant first.
     #[must_use]
-    pub fn words<const WORDS: usize>(&self) -> [u64; WORDS] {
-        const { assert!(BYTES == 8 * WORDS) };
-        let (words, _) = self.answer.as_chunks();
-        std::array::from_fn(|place| u64::from_be_bytes(words[place]))
+    pub fn words(&self) -> [u64; WORDS] {
+        self.answer.map(u64::from_be_bytes)
     }
 }

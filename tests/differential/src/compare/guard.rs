@@ -11,6 +11,7 @@ const MAP_SHARED: i32 = 1;
 const MAP_PRIVATE: i32 = 2;
 const MAP_FIXED: i32 = 16;
 const MAP_ANONYMOUS: i32 = 32;
+const MAP_NORESERVE: i32 = 16_384;
 
 /// Enough for the longest carrier and as many bytes after it.
 const ROOM: usize = 32 * PAGE;
@@ -66,6 +67,36 @@ impl Input {
             mapping,
             mapped,
             length: bytes.len(),
+        }
+    }
+
+    /// Bytes that are zero but for these parts, each at its place; the other pages take no memory.
+    #[must_use]
+    pub fn sparse(length: usize, parts: &[(usize, Vec<u8>)]) -> Self {
+        let room = length.div_ceil(PAGE) * PAGE;
+        let mapped = room + 2 * PAGE;
+        // SAFETY: a fresh mapping of `mapped` bytes, of which the pages between the first and the
+        // last are made readable, and those of the parts, which lie in the slice, are filled.
+        unsafe {
+            let flags = MAP_PRIVATE | MAP_ANONYMOUS | MAP_NORESERVE;
+            let mapping = mmap(ptr::null_mut(), mapped, PROT_NONE, flags, -1, 0);
+            assert!(mapping.addr() != usize::MAX, "no memory for an input");
+            assert_eq!(mprotect(mapping.add(PAGE), room, PROT_READ), 0);
+            for (at, part) in parts {
+                assert!(at + part.len() <= length, "a part past the input");
+                let start = PAGE + room - length + at;
+                let first_page = start / PAGE * PAGE;
+                let pages = (start + part.len()).next_multiple_of(PAGE) - first_page;
+                let page = mapping.add(first_page);
+                assert_eq!(mprotect(page, pages, PROT_READ | PROT_WRITE), 0);
+                ptr::copy_nonoverlapping(part.as_ptr(), mapping.add(start), part.len());
+                assert_eq!(mprotect(page, pages, PROT_READ), 0);
+            }
+            Self {
+                mapping,
+                mapped,
+                length,
+            }
         }
     }
 

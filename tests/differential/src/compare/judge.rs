@@ -73,6 +73,28 @@ impl<'a> Subject<'a> {
     }
 }
 
+/// One call on an input as it lies, which is too long to be copied and shrunk.
+///
+/// # Errors
+///
+/// Where the library's answer is not the original's.
+pub fn check_as_it_lies(
+    input: &Input,
+    request: Request,
+    tally: &mut Tally,
+) -> Result<(), Difference> {
+    let bytes = input.bytes();
+    let expected = oracle::answer(bytes, request);
+    tally.count(request.call.name(), expected.number);
+    let observed = library::answer(input, request);
+    if observed.agrees(&expected) {
+        return Ok(());
+    }
+    let case = Described { bytes, request };
+    let said = both_sides("Rust", &expected, &observed);
+    Err(Difference(format!("difference, not shrunk:\n{case}{said}")))
+}
+
 /// A reader on each side, moved by the same calls, each from where its own answers left it.
 pub struct Lockstep<'a> {
     subject: &'a Subject<'a>,
@@ -171,7 +193,7 @@ fn both_sides(source: &str, expected: &Answer, observed: &Observed) -> String {
     let beside = if observed.frame_intact {
         ""
     } else {
-        "  library   wrote beside the 48 bytes of its answer\n"
+        "  library   wrote beside its answer\n"
     };
     let answer = observed.answer;
     format!("  {source:<8}  {expected}\n  library   {answer}\n{beside}")

@@ -5,8 +5,10 @@ use crate::exported;
 use crate::frame::Frame;
 use crate::guard::Input;
 use crate::lent::Lent;
-use differential::carrier::{Ask, Asked, Reply};
-use differential::case::{Answer, Call, Described, Request};
+use differential::carrier::{
+    Ask, Asked, Reply, CLASS_WORDS, EDIT_WORDS, MOVE_WORDS, SUMMARY_WORDS, VERDICT_WORDS,
+};
+use differential::case::{Answer, Call, Described, Request, BIT_WORDS};
 use differential::plain::Edit;
 
 extern "C" {
@@ -80,7 +82,7 @@ extern "C" {
 #[derive(Clone, Copy)]
 pub struct Observed {
     pub answer: Answer,
-    /// False where a byte beside the 48 of the answer was written.
+    /// False where a byte beside those of the answer was written.
     pub frame_intact: bool,
 }
 
@@ -99,7 +101,7 @@ impl Observed {
 #[must_use]
 pub fn answer(input: &Input, request: Request) -> Observed {
     let bytes = input.bytes();
-    let mut frame = Frame::<48>::EMPTY;
+    let mut frame = Frame::<BIT_WORDS>::EMPTY;
     let number = crash::during(&Described { bytes, request }, || {
         call(bytes, request, frame.answer_mut())
     });
@@ -116,7 +118,7 @@ fn call(bytes: &[u8], request: Request, answer: *mut u8) -> u32 {
     let (start, length) = (bytes.as_ptr(), bytes.len());
     let (position, end) = (request.cursor.position, request.cursor.end);
     let argument = request.argument;
-    // SAFETY: the slice is alive and `answer` has its 48 bytes; cursors may be any numbers.
+    // SAFETY: the slice is alive and `answer` has the bytes it wants; cursors may be any numbers.
     unsafe {
         match request.call {
             Call::BitCursor => emdf_bit_cursor(start, length, answer),
@@ -149,15 +151,15 @@ pub fn reply(bytes: &[u8], ask: Ask, lent: &mut Lent) -> Replied {
     // SAFETY: the slice and what is lent are alive, and each answer has the bytes it wants.
     crash::during(&Asked { bytes, ask }, || unsafe {
         match ask {
-            Ask::Classify => replied::<80, 10>(|answer| emdf_classify(start, length, answer)),
+            Ask::Classify => replied::<CLASS_WORDS>(|answer| emdf_classify(start, length, answer)),
             Ask::Read { table } => {
-                replied::<72, 9>(|answer| emdf_read(start, length, memory, table, answer))
+                replied::<SUMMARY_WORDS>(|answer| emdf_read(start, length, memory, table, answer))
             }
-            Ask::MoveBody { place, scratch } => replied::<16, 2>(|answer| {
+            Ask::MoveBody { place, scratch } => replied::<MOVE_WORDS>(|answer| {
                 emdf_move_body(start, length, place, memory, scratch, answer)
             }),
             Ask::Verdict { profile } => {
-                replied::<32, 4>(|answer| emdf_verdict(start, length, profile, answer))
+                replied::<VERDICT_WORDS>(|answer| emdf_verdict(start, length, profile, answer))
             }
         }
     })
@@ -172,17 +174,17 @@ pub fn edit(edit: &Edit, slices: [&[u8]; 2], lent: &mut Lent) -> Replied {
         destination,
     } = *edit;
     let memory = (lent.lend(destination), destination);
-    // SAFETY: all slices and the destination are alive, and the answer has its 16 bytes.
+    // SAFETY: all slices and the destination are alive, and the answer has the bytes it wants.
     crash::during(edit, || unsafe {
-        replied::<16, 2>(|answer| exported::edit(source, step, slices, memory, answer))
+        replied::<EDIT_WORDS>(|answer| exported::edit(source, step, slices, memory, answer))
     })
 }
 
-fn replied<const BYTES: usize, const WORDS: usize>(call: impl FnOnce(*mut u8) -> u32) -> Replied {
-    let mut frame = Frame::<BYTES>::EMPTY;
+fn replied<const WORDS: usize>(call: impl FnOnce(*mut u8) -> u32) -> Replied {
+    let mut frame = Frame::<WORDS>::EMPTY;
     let number = call(frame.answer_mut());
     Replied {
-        reply: Reply::new(number, &frame.words::<WORDS>()),
+        reply: Reply::new(number, &frame.words()),
         frame_intact: frame.is_intact_around(),
     }
 }

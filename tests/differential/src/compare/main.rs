@@ -21,6 +21,7 @@ mod reached;
 mod report;
 mod self_check;
 mod shrink;
+mod sparse;
 mod verdicts;
 
 use differential::options::Options;
@@ -29,7 +30,7 @@ use report::{Group, Tally};
 use std::process::ExitCode;
 
 /// Each part's groups, run in this order.
-const PARTS: [&[Group]; 7] = [
+const PARTS: [&[Group]; 8] = [
     &bits::GROUPS,
     &fields::GROUPS,
     &carriers::GROUPS,
@@ -37,7 +38,11 @@ const PARTS: [&[Group]; 7] = [
     &verdicts::GROUPS,
     &edits::GROUPS,
     &edit_lists::GROUPS,
+    &sparse::GROUPS,
 ];
+
+/// The parts whose groups have to catch the mistakes of the self-check.
+const PARTS_OF_EDITS: std::ops::Range<usize> = 5..7;
 
 fn main() -> ExitCode {
     let options = match Options::parse(std::env::args().skip(1)) {
@@ -49,7 +54,7 @@ fn main() -> ExitCode {
     };
     crash::watch();
     if options.self_check {
-        return self_check::run(&PARTS[5..], &options);
+        return self_check::run(&PARTS[PARTS_OF_EDITS], &options);
     }
     let mut failed = Vec::new();
     for (group, stream) in PARTS.into_iter().flatten().zip(0..) {

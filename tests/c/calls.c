@@ -8,24 +8,24 @@
 
 /* What is read is writable, and a drop shortens: so 17 and 18 aren't everybody's. */
 const struct facts FACTS[CALLS] = {
-    {"emdf_bit_cursor", EMDF_BIT_ANSWER, BIT(0), 0, 0},
-    {"emdf_bits_remaining", EMDF_BIT_ANSWER, BIT(0), 0, 0},
-    {"emdf_read_bits", EMDF_BIT_ANSWER, BIT(0) | BIT(3) | BIT(4), 0, 0},
-    {"emdf_read_bit", EMDF_BIT_ANSWER, BIT(0) | BIT(3), 0, 0},
-    {"emdf_take_bits", EMDF_BIT_ANSWER, BIT(0) | BIT(3), 0, 0},
-    {"emdf_byte_align", EMDF_BIT_ANSWER, BIT(0) | BIT(3), 0, 0},
-    {"emdf_variable_bits", EMDF_BIT_ANSWER, BIT(0) | BIT(3) | BIT(5) | BIT(6) | BIT(7), 0, 0},
-    {"emdf_classify", EMDF_CLASS_ANSWER, BIT(0) | FIELDS_REFUSED, 0, 1},
-    {"emdf_read", EMDF_READ_ANSWER, READING | BIT(13), 1, 1},
-    {"emdf_move_body", EMDF_MOVE_ANSWER, READING | BIT(16) | BIT(19), 1, 1},
-    {"emdf_verdict", EMDF_VERDICT_ANSWER, READING | BIT(14) | BIT(15), 0, 1},
-    {"emdf_edit_body", EMDF_EDIT_ANSWER, EDIT | BIT(16) | BIT(18), 1, 1},
-    {"emdf_edit_settings", EMDF_EDIT_ANSWER, EDIT | BIT(16) | BIT(17) | BIT(18), 1, 1},
-    {"emdf_edit_drop", EMDF_EDIT_ANSWER, EDIT | BIT(16), 1, 1},
-    {"emdf_edit_insert", EMDF_EDIT_ANSWER, EDIT | BIT(16) | BIT(17) | BIT(18), 1, 1},
-    {"emdf_edit_key", EMDF_EDIT_ANSWER, EDIT | BIT(18), 1, 1},
-    {"emdf_edit_protection", EMDF_EDIT_ANSWER, EDIT | BIT(17) | BIT(18), 1, 1},
-    {"emdf_blank", EMDF_EDIT_ANSWER, BIT(0) | BIT(17) | BIT(19), 1, 0},
+    {"emdf_bit_cursor", EMDF_BIT_ANSWER_BYTES, BIT(0), 0, 0},
+    {"emdf_bits_remaining", EMDF_BIT_ANSWER_BYTES, BIT(0), 0, 0},
+    {"emdf_read_bits", EMDF_BIT_ANSWER_BYTES, BIT(0) | BIT(3) | BIT(4), 0, 0},
+    {"emdf_read_bit", EMDF_BIT_ANSWER_BYTES, BIT(0) | BIT(3), 0, 0},
+    {"emdf_take_bits", EMDF_BIT_ANSWER_BYTES, BIT(0) | BIT(3), 0, 0},
+    {"emdf_byte_align", EMDF_BIT_ANSWER_BYTES, BIT(0) | BIT(3), 0, 0},
+    {"emdf_variable_bits", EMDF_BIT_ANSWER_BYTES, BIT(0) | BIT(3) | BIT(5) | BIT(6) | BIT(7), 0, 0},
+    {"emdf_classify", EMDF_CLASS_ANSWER_BYTES, BIT(0) | FIELDS_REFUSED, 0, 1},
+    {"emdf_read", EMDF_READ_ANSWER_BYTES, READING | BIT(13), 1, 1},
+    {"emdf_move_body", EMDF_MOVE_ANSWER_BYTES, READING | BIT(16) | BIT(19), 1, 1},
+    {"emdf_verdict", EMDF_VERDICT_ANSWER_BYTES, READING | BIT(14) | BIT(15), 0, 1},
+    {"emdf_edit_body", EMDF_EDIT_ANSWER_BYTES, EDIT | BIT(16) | BIT(18), 1, 1},
+    {"emdf_edit_settings", EMDF_EDIT_ANSWER_BYTES, EDIT | BIT(16) | BIT(17) | BIT(18), 1, 1},
+    {"emdf_edit_drop", EMDF_EDIT_ANSWER_BYTES, EDIT | BIT(16), 1, 1},
+    {"emdf_edit_insert", EMDF_EDIT_ANSWER_BYTES, EDIT | BIT(16) | BIT(17) | BIT(18), 1, 1},
+    {"emdf_edit_key", EMDF_EDIT_ANSWER_BYTES, EDIT | BIT(18), 1, 1},
+    {"emdf_edit_protection", EMDF_EDIT_ANSWER_BYTES, EDIT | BIT(17) | BIT(18), 1, 1},
+    {"emdf_blank", EMDF_EDIT_ANSWER_BYTES, BIT(0) | BIT(17) | BIT(19), 1, 0},
 };
 
 static uint32_t bit_call(const struct request *r)
@@ -107,13 +107,13 @@ uint32_t short_number(enum call call)
 
 size_t needed_bytes(enum call call, const uint8_t *answer)
 {
-    return (size_t)emdf_word(answer, 0) * (call == READ ? EMDF_ROW : 1);
+    return (size_t)emdf_word(answer, 0) * (call == READ ? EMDF_ROW_BYTES : 1);
 }
 
 size_t filled_bytes(enum call call, const uint8_t *answer)
 {
     if (call == READ)
-        return (size_t)emdf_word(answer, EMDF_PAYLOADS) * EMDF_ROW;
+        return (size_t)emdf_word(answer, EMDF_PAYLOADS) * EMDF_ROW_BYTES;
     if (call == MOVE_BODY)
         return emdf_word(answer, EMDF_BODY_START_BIT) % 8 != 0 ? (size_t)emdf_word(answer, EMDF_BODY_LENGTH) : 0;
     return (size_t)emdf_word(answer, EMDF_WRITTEN_LENGTH);

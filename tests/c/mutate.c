@@ -3,6 +3,9 @@
 #include <stdlib.h>
 #include <string.h>
 
+#include "lent.h"
+#include "seeds.h"
+
 uint64_t draw(struct random *random)
 {
     uint64_t z = random->state += UINT64_C(0x9e3779b97f4a7c15);
@@ -12,20 +15,36 @@ uint64_t draw(struct random *random)
     return z ^ z >> 31;
 }
 
-size_t draw_below(struct random *random, size_t n)
+static size_t draw_below(struct random *random, size_t n)
 {
     return n > 0 ? (size_t)(draw(random) % n) : 0;
 }
 
-void keep(struct pool *pool, struct random *random, const uint8_t *bytes, size_t length)
+/* ---- what is kept */
+
+static struct pool new_pool(size_t most)
 {
-    uint8_t *copy = malloc(length + 1);
+    struct pool pool = {NULL, 0, most};
+
+    pool.items = must_have(calloc(most, sizeof pool.items[0]));
+    return pool;
+}
+
+struct corpus new_corpus(uint64_t seed, size_t inputs_most, size_t carriers_most)
+{
+    struct corpus corpus;
+
+    corpus.inputs = new_pool(inputs_most);
+    corpus.carriers = new_pool(carriers_most);
+    corpus.random.state = seed;
+    return corpus;
+}
+
+static void keep(struct pool *pool, struct random *random, const uint8_t *bytes, size_t length)
+{
+    uint8_t *copy = must_have(malloc(length + 1));
     size_t at = pool->count;
 
-    if (pool->items == NULL)
-        pool->items = calloc(pool->most, sizeof pool->items[0]);
-    if (copy == NULL || pool->items == NULL)
-        exit(2);
     if (pool->count < pool->most) {
         pool->count++;
     } else {
@@ -37,7 +56,19 @@ void keep(struct pool *pool, struct random *random, const uint8_t *bytes, size_t
     pool->items[at].length = length;
 }
 
-void plain_input(struct input *in, enum call call, const uint8_t *carrier, size_t length)
+void keep_input(struct corpus *corpus, const struct input *in)
+{
+    keep(&corpus->inputs, &corpus->random, in->bytes, in->length);
+}
+
+void keep_carrier(struct corpus *corpus, const uint8_t *bytes, size_t length)
+{
+    keep(&corpus->carriers, &corpus->random, bytes, length);
+}
+
+/* ---- the first inputs */
+
+static void plain_input(struct input *in, enum call call, const uint8_t *carrier, size_t length)
 {
     memset(in->bytes, 0, HEAD);
     in->bytes[AT_CALL] = (uint8_t)call;
@@ -45,7 +76,7 @@ void plain_input(struct input *in, enum call call, const uint8_t *carrier, size_
     in->length = HEAD + length;
 }
 
-void large_input(struct input *in, enum call call, const uint8_t *carrier, size_t length)
+static void large_input(struct input *in, enum call call, const uint8_t *carrier, size_t length)
 {
     plain_input(in, call, carrier, length);
     memset(in->bytes + AT_NUMBER, 255, 8);
@@ -62,6 +93,55 @@ void large_input(struct input *in, enum call call, const uint8_t *carrier, size_
     in->bytes[AT_BODY_LENGTH] = in->bytes[AT_BODY_LENGTH + 1] = length > 4096 ? 255 : 1;
     in->bytes[AT_PRESENT] = 7;
     in->bytes[AT_OFFSET] = 7;
+}
+
+void each_input(const uint8_t *carrier, size_t length, input_taker take, void *with)
+{
+    static struct input in;
+    unsigned call;
+
+    for (call = 0; call < CALLS; call++) {
+        plain_input(&in, call, carrier, length);
+        take(with, &in);
+        large_input(&in, call, carrier, length);
+        take(with, &in);
+        /* An id, a key id and a group id of 64 bits in what fits. */
+        in.bytes[AT_BODY_KIND] = 3;
+        take(with, &in);
+    }
+}
+
+struct seeding {
+    struct corpus *corpus;
+    size_t longest;
+    input_taker take;
+    void *with;
+};
+
+static void add_input(void *with, const struct input *in)
+{
+    const struct seeding *s = with;
+
+    keep_input(s->corpus, in);
+    if (s->take != NULL)
+        s->take(s->with, in);
+}
+
+static void add_carrier(void *with, const uint8_t *bytes, size_t length)
+{
+    const struct seeding *s = with;
+
+    if (length > s->longest)
+        return;
+    keep_carrier(s->corpus, bytes, length);
+    each_input(bytes, length, add_input, with);
+}
+
+void add_seeds(struct corpus *corpus, size_t longest, input_taker take, void *with)
+{
+    struct seeding s = {corpus, longest, take, with};
+
+    seed_carriers(add_carrier, &s);
 }
 
 /* ---- changes */
@@ -230,20 +310,21 @@ static const struct slice *choose(const struct pool *pool, struct random *random
     return c;
 }
 
-void mutate(struct input *in, struct random *random, const struct pool *corpus, const struct pool *carriers)
+void mutate(struct input *in, struct corpus *corpus)
 {
-    const struct slice *base = choose(corpus, random);
+    struct random *random = &corpus->random;
+    const struct slice *base = choose(&corpus->inputs, random);
     size_t n = draw_below(random, draw(random) % 8 == 0 ? 16 : 4) + 1;
 
     memcpy(in->bytes, base->bytes, base->length);
     in->length = base->length;
-    if (carriers->count > 0 && draw(random) % 4 == 0) {
-        const struct slice *c = choose(carriers, random);
+    if (corpus->carriers.count > 0 && draw(random) % 4 == 0) {
+        const struct slice *c = choose(&corpus->carriers, random);
         memcpy(in->bytes + HEAD, c->bytes, c->length);
         in->length = HEAD + c->length;
     }
     while (n-- > 0)
-        change(in, random, corpus);
+        change(in, random, &corpus->inputs);
     if (draw(random) % 4 != 0)
         mend_header(in, random);
 }

@@ -11,13 +11,13 @@
 /* How far around a slice its neighbours are looked at. */
 enum { MARGIN = 1024 };
 
-static void *must(void *p)
+void *must_have(void *memory)
 {
-    if (p == MAP_FAILED || p == NULL) {
+    if (memory == MAP_FAILED || memory == NULL) {
         perror("memory for the run");
         exit(2);
     }
-    return p;
+    return memory;
 }
 
 static size_t in_pages(size_t size)
@@ -27,13 +27,20 @@ static size_t in_pages(size_t size)
     return (size + page - 1) / page * page;
 }
 
-/* Room for size bytes between two pages that nobody may touch. */
+/* Room for so many bytes, whole pages, between two others that nobody may touch. */
 static uint8_t *between_pages(size_t size)
 {
     size_t page = (size_t)sysconf(_SC_PAGESIZE);
-    uint8_t *p = must(mmap(NULL, size + 2 * page, PROT_NONE, MAP_PRIVATE | MAP_ANONYMOUS, -1, 0));
+    uint8_t *p = must_have(mmap(NULL, size + 2 * page, PROT_NONE, MAP_PRIVATE | MAP_ANONYMOUS, -1, 0));
 
     return p + page;
+}
+
+uint8_t *guarded_memory(size_t size)
+{
+    int flags = MAP_PRIVATE | MAP_ANONYMOUS | MAP_FIXED;
+
+    return must_have(mmap(between_pages(size), size, PROT_READ | PROT_WRITE, flags, -1, 0));
 }
 
 struct shown shown_memory(size_t size)
@@ -43,9 +50,9 @@ struct shown shown_memory(size_t size)
 
     m.size = in_pages(size);
     if (file < 0 || ftruncate(file, (off_t)m.size) != 0)
-        must(NULL);
-    m.written = must(mmap(NULL, m.size, PROT_READ | PROT_WRITE, MAP_SHARED, file, 0));
-    m.read = must(mmap(between_pages(m.size), m.size, PROT_READ, MAP_SHARED | MAP_FIXED, file, 0));
+        must_have(NULL);
+    m.written = must_have(mmap(NULL, m.size, PROT_READ | PROT_WRITE, MAP_SHARED, file, 0));
+    m.read = must_have(mmap(between_pages(m.size), m.size, PROT_READ, MAP_SHARED | MAP_FIXED, file, 0));
     close(file);
     return m;
 }
@@ -56,8 +63,8 @@ struct filled filled_memory(size_t size, uint8_t flip)
     size_t i;
 
     m.size = in_pages(size);
-    m.bytes = must(mmap(between_pages(m.size), m.size, PROT_READ | PROT_WRITE, MAP_PRIVATE | MAP_ANONYMOUS | MAP_FIXED, -1, 0));
-    m.pattern = must(malloc(m.size));
+    m.bytes = guarded_memory(m.size);
+    m.pattern = must_have(malloc(m.size));
     for (i = 0; i < m.size; i++)
         m.pattern[i] = (uint8_t)((i * 167 + (i >> 8) * 29 + 91) ^ flip);
     memcpy(m.bytes, m.pattern, m.size);

@@ -14,7 +14,7 @@ enum call {
     CALLS
 };
 
-enum { ANSWER_MOST = EMDF_CLASS_ANSWER };
+enum { ANSWER_MOST = EMDF_CLASS_ANSWER_BYTES };
 
 struct slice {
     const uint8_t *bytes;

@@ -5,10 +5,11 @@
 #include <stddef.h>
 #include <stdint.h>
 
-enum { CARRIER_MOST = 65539 };
-
 /* Hands each carrier to `take`, with what `with` is. */
 void seed_carriers(void (*take)(void *with, const uint8_t *bytes, size_t length), void *with);
+
+/* A setting that has a presence: 1 and its value, or 0 and 0. */
+void put_setting(uint8_t *settings, size_t i, int is_present, uint64_t value);
 
 /* Settings of a kind: 0 the shortest; 1 discard; 2 every number at its most; 3 as the profile wants them. */
 void seed_settings(uint8_t *settings, unsigned kind);

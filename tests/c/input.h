@@ -20,8 +20,7 @@ enum {
     SOURCE_MOST = 70000,
     BODY_MOST = 70000,
     INPUT_MOST = HEAD + SOURCE_MOST,
-    SETTINGS_MOST = 256,
-    ROWS_MOST = 27592 /* of a carrier of 65,539 bytes */
+    SETTINGS_MOST = 256
 };
 
 struct input {
@@ -32,9 +31,12 @@ struct input {
 /* What the source reads as, where it does. */
 struct reading {
     uint32_t number;
-    uint8_t answer[EMDF_READ_ANSWER];
+    uint8_t answer[EMDF_READ_ANSWER_BYTES];
     const uint8_t *rows;
 };
+
+/* Nothing is known of the source. */
+extern const struct reading UNREAD;
 
 /* The request of an input, without its room and answer. What isn't in the input itself is put into the two buffers. */
 struct request request_of(const struct input *in, const struct reading *own, uint8_t *body, uint8_t *settings);

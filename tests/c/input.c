@@ -2,6 +2,10 @@
 
 #include <string.h>
 
+#include "seeds.h"
+
+const struct reading UNREAD = {EMDF_TRUNCATED_CONTAINER, {0}, NULL};
+
 static uint64_t number_at(const struct input *in, size_t at, size_t bytes)
 {
     uint64_t v = 0;
@@ -16,7 +20,7 @@ const uint8_t *row_of(const struct reading *own, size_t place)
 {
     if (own->number != 0 || place >= emdf_word(own->answer, EMDF_PAYLOADS))
         return NULL;
-    return own->rows + place * EMDF_ROW;
+    return own->rows + place * EMDF_ROW_BYTES;
 }
 
 const uint8_t *settings_of_row(const uint8_t *row)
@@ -37,12 +41,6 @@ size_t body_of_row(const uint8_t *row, const uint8_t *source, uint8_t *body)
     return length;
 }
 
-static void put_pair(uint8_t *settings, size_t i, int is_present, uint64_t value)
-{
-    emdf_set_word(settings, i, (uint64_t)is_present);
-    emdf_set_word(settings, i + 1, is_present ? value : 0);
-}
-
 /* Presences by the scope's settings rule, so that most settings are writable. */
 static void ruled_settings(const struct input *in, uint8_t *s)
 {
@@ -51,16 +49,16 @@ static void ruled_settings(const struct input *in, uint8_t *s)
     int has_aligned = !discard && !has_offset, is_aligned = has_aligned && (values & 4);
     int has_last = !discard && (has_offset || is_aligned);
 
-    put_pair(s, EMDF_SETTINGS_HAS_SAMPLE_OFFSET, has_offset, number_at(in, AT_OFFSET, 2) & 4095);
-    put_pair(s, EMDF_SETTINGS_HAS_DURATION, present >> 1 & 1, number_at(in, AT_DURATION, 4) & 8388607);
-    put_pair(s, EMDF_SETTINGS_HAS_GROUP_ID, present >> 2 & 1, number_at(in, AT_GROUP, 8));
+    put_setting(s, EMDF_SETTINGS_HAS_SAMPLE_OFFSET, has_offset, number_at(in, AT_OFFSET, 2) & 4095);
+    put_setting(s, EMDF_SETTINGS_HAS_DURATION, present >> 1 & 1, number_at(in, AT_DURATION, 4) & 8388607);
+    put_setting(s, EMDF_SETTINGS_HAS_GROUP_ID, present >> 2 & 1, number_at(in, AT_GROUP, 8));
     emdf_set_word(s, EMDF_SETTINGS_CODEC_DATA_PRESENT, values & 1);
     emdf_set_word(s, EMDF_SETTINGS_DISCARD_UNKNOWN_PAYLOAD, (uint64_t)discard);
-    put_pair(s, EMDF_SETTINGS_HAS_PAYLOAD_FRAME_ALIGNED, has_aligned, (uint64_t)is_aligned);
-    put_pair(s, EMDF_SETTINGS_HAS_CREATE_DUPLICATE, is_aligned, values >> 3 & 1);
-    put_pair(s, EMDF_SETTINGS_HAS_REMOVE_DUPLICATE, is_aligned, values >> 4 & 1);
-    put_pair(s, EMDF_SETTINGS_HAS_PRIORITY, has_last, in->bytes[AT_PRIORITY] & 63);
-    put_pair(s, EMDF_SETTINGS_HAS_PROCESSING_ALLOWED, has_last, in->bytes[AT_PROCESSING] & 7);
+    put_setting(s, EMDF_SETTINGS_HAS_PAYLOAD_FRAME_ALIGNED, has_aligned, (uint64_t)is_aligned);
+    put_setting(s, EMDF_SETTINGS_HAS_CREATE_DUPLICATE, is_aligned, values >> 3 & 1);
+    put_setting(s, EMDF_SETTINGS_HAS_REMOVE_DUPLICATE, is_aligned, values >> 4 & 1);
+    put_setting(s, EMDF_SETTINGS_HAS_PRIORITY, has_last, in->bytes[AT_PRIORITY] & 63);
+    put_setting(s, EMDF_SETTINGS_HAS_PROCESSING_ALLOWED, has_last, in->bytes[AT_PROCESSING] & 7);
 }
 
 /* One number of the eighteen is another one. */
@@ -76,9 +74,9 @@ static struct slice choose_settings(const struct input *in, const uint8_t *row, 
 
     memset(s, 0, SETTINGS_MOST);
     chosen.bytes = s;
-    chosen.length = EMDF_SETTINGS;
+    chosen.length = EMDF_SETTINGS_BYTES;
     if (row != NULL && kind % 4 == 2)
-        memcpy(s, settings_of_row(row), EMDF_SETTINGS);
+        memcpy(s, settings_of_row(row), EMDF_SETTINGS_BYTES);
     else
         ruled_settings(in, s);
     if (kind % 4 == 1)

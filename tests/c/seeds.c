@@ -5,42 +5,42 @@
 
 #include "emdf.h"
 
-static void put_pair(uint8_t *settings, size_t i, uint64_t value)
+void put_setting(uint8_t *settings, size_t i, int is_present, uint64_t value)
 {
-    emdf_set_word(settings, i, 1);
-    emdf_set_word(settings, i + 1, value);
+    emdf_set_word(settings, i, is_present ? 1 : 0);
+    emdf_set_word(settings, i + 1, is_present ? value : 0);
 }
 
 static void put_last(uint8_t *settings, uint64_t priority, uint64_t processing)
 {
-    put_pair(settings, EMDF_SETTINGS_HAS_PRIORITY, priority);
-    put_pair(settings, EMDF_SETTINGS_HAS_PROCESSING_ALLOWED, processing);
+    put_setting(settings, EMDF_SETTINGS_HAS_PRIORITY, 1, priority);
+    put_setting(settings, EMDF_SETTINGS_HAS_PROCESSING_ALLOWED, 1, processing);
 }
 
 static void put_most(uint8_t *settings)
 {
-    put_pair(settings, EMDF_SETTINGS_HAS_SAMPLE_OFFSET, 2047);
-    put_pair(settings, EMDF_SETTINGS_HAS_DURATION, 4196351);
-    put_pair(settings, EMDF_SETTINGS_HAS_GROUP_ID, UINT64_C(6148914691236517203));
+    put_setting(settings, EMDF_SETTINGS_HAS_SAMPLE_OFFSET, 1, 2047);
+    put_setting(settings, EMDF_SETTINGS_HAS_DURATION, 1, 4196351);
+    put_setting(settings, EMDF_SETTINGS_HAS_GROUP_ID, 1, UINT64_C(6148914691236517203));
     emdf_set_word(settings, EMDF_SETTINGS_CODEC_DATA_PRESENT, 1);
     put_last(settings, 31, 3);
 }
 
 static void put_wanted(uint8_t *settings)
 {
-    put_pair(settings, EMDF_SETTINGS_HAS_GROUP_ID, 5);
+    put_setting(settings, EMDF_SETTINGS_HAS_GROUP_ID, 1, 5);
     emdf_set_word(settings, EMDF_SETTINGS_CODEC_DATA_PRESENT, 1);
-    put_pair(settings, EMDF_SETTINGS_HAS_PAYLOAD_FRAME_ALIGNED, 1);
-    put_pair(settings, EMDF_SETTINGS_HAS_CREATE_DUPLICATE, 0);
-    put_pair(settings, EMDF_SETTINGS_HAS_REMOVE_DUPLICATE, 0);
+    put_setting(settings, EMDF_SETTINGS_HAS_PAYLOAD_FRAME_ALIGNED, 1, 1);
+    put_setting(settings, EMDF_SETTINGS_HAS_CREATE_DUPLICATE, 1, 0);
+    put_setting(settings, EMDF_SETTINGS_HAS_REMOVE_DUPLICATE, 1, 0);
     put_last(settings, 0, 0);
 }
 
 void seed_settings(uint8_t *settings, unsigned kind)
 {
-    memset(settings, 0, EMDF_SETTINGS);
+    memset(settings, 0, EMDF_SETTINGS_BYTES);
     if (kind == 0)
-        put_pair(settings, EMDF_SETTINGS_HAS_PAYLOAD_FRAME_ALIGNED, 0);
+        put_setting(settings, EMDF_SETTINGS_HAS_PAYLOAD_FRAME_ALIGNED, 1, 0);
     else if (kind == 1)
         emdf_set_word(settings, EMDF_SETTINGS_DISCARD_UNKNOWN_PAYLOAD, 1);
     else if (kind == 2)
@@ -52,8 +52,8 @@ void seed_settings(uint8_t *settings, unsigned kind)
 /* A payload more at the end; a carrier that doesn't take it stays. */
 static size_t append(uint8_t *carrier, size_t length, uint64_t place, uint64_t id, unsigned kind, size_t body_length)
 {
-    static uint8_t next[CARRIER_MOST], body[CARRIER_MOST];
-    uint8_t settings[EMDF_SETTINGS], answer[EMDF_EDIT_ANSWER];
+    static uint8_t next[EMDF_CARRIER_MOST], body[EMDF_CARRIER_MOST];
+    uint8_t settings[EMDF_SETTINGS_BYTES], answer[EMDF_EDIT_ANSWER_BYTES];
     size_t i;
 
     seed_settings(settings, kind);
@@ -69,17 +69,17 @@ static size_t append(uint8_t *carrier, size_t length, uint64_t place, uint64_t i
 
 static size_t blank(uint8_t *carrier, uint64_t key, size_t primary, size_t secondary)
 {
-    static const uint8_t bytes[16] = {1, 2, 3, 4, 5, 6, 7, 8, 9, 10, 11, 12, 13, 14, 15, 16};
-    uint8_t answer[EMDF_EDIT_ANSWER];
+    static const uint8_t bytes[EMDF_PROTECTION_BYTES] = {1, 2, 3, 4, 5, 6, 7, 8, 9, 10, 11, 12, 13, 14, 15, 16};
+    uint8_t answer[EMDF_EDIT_ANSWER_BYTES];
 
-    if (emdf_blank(key, bytes, primary, bytes, secondary, carrier, CARRIER_MOST, answer) != EMDF_ACCEPTED)
+    if (emdf_blank(key, bytes, primary, bytes, secondary, carrier, EMDF_CARRIER_MOST, answer) != EMDF_ACCEPTED)
         abort();
     return (size_t)emdf_word(answer, EMDF_WRITTEN_LENGTH);
 }
 
 size_t seed_carrier(uint8_t *carrier, unsigned payloads, size_t body_length, int is_wide)
 {
-    size_t length = blank(carrier, is_wide ? UINT64_MAX : 3, is_wide ? 16 : 1, is_wide ? 16 : 0);
+    size_t length = is_wide ? blank(carrier, UINT64_MAX, EMDF_PROTECTION_BYTES, EMDF_PROTECTION_BYTES) : blank(carrier, 3, 1, 0);
     unsigned k;
 
     for (k = 0; k < payloads; k++)
@@ -108,7 +108,7 @@ void seed_carriers(void (*take)(void *with, const uint8_t *bytes, size_t length)
 {
     static const uint8_t a[] = {0x58, 0x38, 0x00, 0x03, 0x00, 0x12, 0x94};
     static const uint8_t b[] = {0x58, 0x38, 0x00, 0x07, 0x00, 0x42, 0x02, 0xc3, 0x02, 0x52, 0x80};
-    static uint8_t carrier[CARRIER_MOST];
+    static uint8_t carrier[EMDF_CARRIER_MOST];
     size_t i;
 
     take(with, a, 0);

@@ -22,6 +22,12 @@ struct filled {
     size_t size;
 };
 
+/* Memory that can't be had ends the run with 2. */
+void *must_have(void *memory);
+
+/* So many bytes that are zero, in whole pages, between two others that nobody may touch. */
+uint8_t *guarded_memory(size_t size);
+
 struct shown shown_memory(size_t size);
 struct filled filled_memory(size_t size, uint8_t flip);
 

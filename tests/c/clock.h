@@ -1,0 +1,7 @@
+#ifndef CLOCK_H
+#define CLOCK_H
+
+/* Seconds from some moment on. */
+double now(void);
+
+#endif

@@ -1,0 +1,225 @@
+/* What emdf.h says of its version and of slices. Length 0 with NULL is an empty slice, in each argument of each call: what has to
+   come out was taken from the scope. Slices that are only read may overlap: the call answers as if they lay apart. */
+#include <stdio.h>
+#include <string.h>
+
+#include "emdf_names.h"
+
+enum { WORDS_MOST = EMDF_CLASS_ANSWER_BYTES / 8, ROOM = 1024, FILLING = 0x5a };
+
+/* The scope's carriers: without a payload; with the body C3; with an empty one. And the second with its body at bit 57: settings
+   of six bits. */
+static const uint8_t A[] = {0x58, 0x38, 0x00, 0x03, 0x00, 0x12, 0x94};
+static const uint8_t B[] = {0x58, 0x38, 0x00, 0x07, 0x00, 0x42, 0x02, 0xc3, 0x02, 0x52, 0x80};
+static const uint8_t B_EMPTY[] = {0x58, 0x38, 0x00, 0x06, 0x00, 0x42, 0x00, 0x02, 0x52, 0x80};
+static const uint8_t UNALIGNED[] = {0x58, 0x38, 0x00, 0x07, 0x00, 0x40, 0x01, 0x61, 0x81, 0x29, 0x40};
+static const uint8_t A5[] = {0xa5}, C3[] = {0xc3};
+
+#define OF(bytes) bytes, sizeof(bytes)
+#define NONE NULL, 0
+#define BARE OF(emdf_settings_bare)
+
+static uint8_t answer[EMDF_CLASS_ANSWER_BYTES + 8], room[ROOM];
+static unsigned checks, failures;
+
+static void fail(const char *what, const char *how)
+{
+    printf("host: %s: %s\n", what, how);
+    failures++;
+}
+
+static void check_version(void)
+{
+    checks++;
+    if (emdf_version() != EMDF_VERSION)
+        fail("emdf_version()", "another version than the header's");
+}
+
+static int is_filling(const uint8_t *bytes, size_t length)
+{
+    size_t i;
+    for (i = 0; i < length; i++)
+        if (bytes[i] != FILLING)
+            return 0;
+    return 1;
+}
+
+/* The returned number and the answer's words, and nothing beside them; in the room a carrier, or nothing. */
+static void expect(const char *call, uint32_t number, size_t answer_bytes, const uint8_t *carrier, size_t length,
+                   const uint64_t *wanted)
+{
+    size_t i;
+    checks++;
+    if (number != wanted[0])
+        fail(call, "another number");
+    for (i = 0; i < answer_bytes / 8; i++)
+        if (emdf_word(answer, i) != wanted[1 + i])
+            fail(call, "another answer");
+    if (!is_filling(answer + answer_bytes, sizeof answer - answer_bytes))
+        fail(call, "a byte beside the answer");
+    if ((length > 0 && memcmp(room, carrier, length) != 0) || !is_filling(room + length, sizeof room - length))
+        fail(call, "other bytes in the room");
+    memset(answer, FILLING, sizeof answer);
+    memset(room, FILLING, sizeof room);
+}
+
+/* Words that aren't named are 0. */
+#define WORDS(...) ((const uint64_t[1 + WORDS_MOST]){__VA_ARGS__})
+#define BITS(call, ...) expect(#call, call, EMDF_BIT_ANSWER_BYTES, NONE, WORDS(__VA_ARGS__))
+#define CLASS(call, ...) expect(#call, call, EMDF_CLASS_ANSWER_BYTES, NONE, WORDS(__VA_ARGS__))
+#define READING(call, ...) expect(#call, call, EMDF_READ_ANSWER_BYTES, NONE, WORDS(__VA_ARGS__))
+#define BODY(call, ...) expect(#call, call, EMDF_MOVE_ANSWER_BYTES, NONE, WORDS(__VA_ARGS__))
+#define VERDICT(call, ...) expect(#call, call, EMDF_VERDICT_ANSWER_BYTES, NONE, WORDS(__VA_ARGS__))
+#define REFUSED(call, ...) expect(#call, call, EMDF_EDIT_ANSWER_BYTES, NONE, WORDS(__VA_ARGS__))
+#define WRITES(carrier, call) expect(#call, call, EMDF_EDIT_ANSWER_BYTES, OF(carrier), WORDS(EMDF_ACCEPTED, sizeof(carrier)))
+
+/* No bits are left, wherever the cursor is. */
+static void check_bits(void)
+{
+    BITS(emdf_bit_cursor(NONE, answer), EMDF_ACCEPTED);
+    BITS(emdf_bits_remaining(NONE, 0, 0, answer), EMDF_ACCEPTED);
+    BITS(emdf_bits_remaining(NONE, 3, 64, answer), EMDF_ACCEPTED, 0, 0, 3, 64);
+    BITS(emdf_read_bits(NONE, 0, 0, 0, answer), EMDF_ACCEPTED);
+    BITS(emdf_read_bits(NONE, 0, 0, 8, answer), EMDF_END_OF_INPUT, 8, 0);
+    BITS(emdf_read_bits(NONE, 0, 64, 64, answer), EMDF_END_OF_INPUT, 64, 0, 0, 64);
+    BITS(emdf_read_bits(NONE, 0, 0, 65, answer), EMDF_INVALID_WIDTH, 65);
+    BITS(emdf_read_bit(NONE, 0, 0, answer), EMDF_END_OF_INPUT, 1, 0);
+    BITS(emdf_read_bit(NONE, 7, 8, answer), EMDF_END_OF_INPUT, 1, 0, 7, 8);
+    BITS(emdf_take_bits(NONE, 0, 0, 0, answer), EMDF_ACCEPTED);
+    BITS(emdf_take_bits(NONE, 0, 16, 9, answer), EMDF_END_OF_INPUT, 9, 0, 0, 16);
+    BITS(emdf_byte_align(NONE, 0, 0, answer), EMDF_ACCEPTED);
+    BITS(emdf_byte_align(NONE, 3, 8, answer), EMDF_END_OF_INPUT, 5, 0, 3, 8);
+    BITS(emdf_variable_bits(NONE, 0, 0, 2, 3, answer), EMDF_END_OF_INPUT, 2, 0);
+    BITS(emdf_variable_bits(NONE, 0, 64, 63, 1, answer), EMDF_END_OF_INPUT, 63, 0, 0, 64);
+    BITS(emdf_variable_bits(NONE, 0, 0, 0, 3, answer), EMDF_INVALID_VARIABLE_BITS, 0, 3);
+}
+
+static void check_carriers(void)
+{
+    CLASS(emdf_classify(NONE, answer), EMDF_ACCEPTED, EMDF_NON_EMDF);
+    READING(emdf_read(NONE, NONE, answer), EMDF_TRUNCATED_CONTAINER, 4, 0);
+    READING(emdf_read(NONE, OF(room), answer), EMDF_TRUNCATED_CONTAINER, 4, 0);
+    READING(emdf_read(OF(A), NONE, answer), EMDF_ACCEPTED, sizeof A, 0, 0, 1, 0, 0xa5, 0, 0, 0);
+    READING(emdf_read(OF(B), NONE, answer), EMDF_TABLE_TOO_SHORT, 1);
+    BODY(emdf_move_body(NONE, 0, NONE, answer), EMDF_TRUNCATED_CONTAINER, 4, 0);
+    BODY(emdf_move_body(NONE, 0, OF(room), answer), EMDF_TRUNCATED_CONTAINER, 4, 0);
+    BODY(emdf_move_body(OF(A), 0, NONE, answer), EMDF_NO_SUCH_PAYLOAD);
+    BODY(emdf_move_body(OF(B), 0, NONE, answer), EMDF_ACCEPTED, 56, 1);
+    BODY(emdf_move_body(OF(B_EMPTY), 0, NONE, answer), EMDF_ACCEPTED, 56, 0);
+    BODY(emdf_move_body(OF(UNALIGNED), 0, NONE, answer), EMDF_SCRATCH_TOO_SHORT, 1);
+    VERDICT(emdf_verdict(NONE, EMDF_STRICT, answer), EMDF_TRUNCATED_CONTAINER, 4, 0);
+    VERDICT(emdf_verdict(NONE, EMDF_COMPAT, answer), EMDF_TRUNCATED_CONTAINER, 4, 0);
+}
+
+static void check_sources(void)
+{
+    REFUSED(emdf_edit_body(NONE, 0, OF(C3), OF(room), answer), EMDF_TRUNCATED_CONTAINER, 4, 0);
+    REFUSED(emdf_edit_body(NONE, 0, NONE, NONE, answer), EMDF_TRUNCATED_CONTAINER, 4, 0);
+    REFUSED(emdf_edit_settings(NONE, 0, BARE, OF(room), answer), EMDF_TRUNCATED_CONTAINER, 4, 0);
+    REFUSED(emdf_edit_settings(NONE, 0, NONE, NONE, answer), EMDF_TRUNCATED_CONTAINER, 4, 0);
+    REFUSED(emdf_edit_drop(NONE, 0, OF(room), answer), EMDF_TRUNCATED_CONTAINER, 4, 0);
+    REFUSED(emdf_edit_drop(NONE, 0, NONE, answer), EMDF_TRUNCATED_CONTAINER, 4, 0);
+    REFUSED(emdf_edit_insert(NONE, 0, 1, BARE, OF(C3), OF(room), answer), EMDF_TRUNCATED_CONTAINER, 4, 0);
+    REFUSED(emdf_edit_insert(NONE, 0, 1, NONE, NONE, NONE, answer), EMDF_TRUNCATED_CONTAINER, 4, 0);
+    REFUSED(emdf_edit_key(NONE, 1, OF(room), answer), EMDF_TRUNCATED_CONTAINER, 4, 0);
+    REFUSED(emdf_edit_key(NONE, 1, NONE, answer), EMDF_TRUNCATED_CONTAINER, 4, 0);
+    REFUSED(emdf_edit_protection(NONE, OF(A5), OF(A5), OF(room), answer), EMDF_TRUNCATED_CONTAINER, 4, 0);
+    REFUSED(emdf_edit_protection(NONE, NONE, NONE, NONE, answer), EMDF_TRUNCATED_CONTAINER, 4, 0);
+}
+
+/* Bodies, settings, protections. */
+static void check_contents(void)
+{
+    WRITES(B_EMPTY, emdf_edit_body(OF(B), 0, NONE, OF(room), answer));
+    WRITES(B_EMPTY, emdf_edit_insert(OF(A), 0, 1, BARE, NONE, OF(room), answer));
+    REFUSED(emdf_edit_insert(OF(A), 0, 1, NONE, OF(C3), OF(room), answer), EMDF_NOT_WRITABLE);
+    REFUSED(emdf_edit_insert(OF(A), 0, 1, NONE, NONE, OF(room), answer), EMDF_NOT_WRITABLE);
+    REFUSED(emdf_edit_settings(OF(B), 0, NONE, OF(room), answer), EMDF_NOT_WRITABLE);
+    WRITES(A, emdf_edit_protection(OF(A), OF(A5), NONE, OF(room), answer));
+    REFUSED(emdf_edit_protection(OF(A), NONE, OF(A5), OF(room), answer), EMDF_NOT_WRITABLE);
+    REFUSED(emdf_edit_protection(OF(A), NONE, NONE, OF(room), answer), EMDF_NOT_WRITABLE);
+    WRITES(A, emdf_blank(0, OF(A5), NONE, OF(room), answer));
+    REFUSED(emdf_blank(0, NONE, OF(A5), OF(room), answer), EMDF_NOT_WRITABLE);
+    REFUSED(emdf_blank(0, NONE, NONE, NONE, answer), EMDF_NOT_WRITABLE);
+}
+
+/* 19 with what is needed: B, A and B again by its parts. */
+static void check_destinations(void)
+{
+    REFUSED(emdf_edit_body(OF(B), 0, OF(C3), NONE, answer), EMDF_DESTINATION_TOO_SHORT, sizeof B);
+    REFUSED(emdf_edit_body(OF(B), 0, NONE, NONE, answer), EMDF_DESTINATION_TOO_SHORT, sizeof B_EMPTY);
+    REFUSED(emdf_edit_settings(OF(B), 0, BARE, NONE, answer), EMDF_DESTINATION_TOO_SHORT, sizeof B);
+    REFUSED(emdf_edit_drop(OF(B), 0, NONE, answer), EMDF_DESTINATION_TOO_SHORT, sizeof A);
+    REFUSED(emdf_edit_insert(OF(A), 0, 1, BARE, OF(C3), NONE, answer), EMDF_DESTINATION_TOO_SHORT, sizeof B);
+    REFUSED(emdf_edit_insert(OF(A), 0, 1, BARE, NONE, NONE, answer), EMDF_DESTINATION_TOO_SHORT, sizeof B_EMPTY);
+    REFUSED(emdf_edit_key(OF(A), 0, NONE, answer), EMDF_DESTINATION_TOO_SHORT, sizeof A);
+    REFUSED(emdf_edit_protection(OF(A), OF(A5), NONE, NONE, answer), EMDF_DESTINATION_TOO_SHORT, sizeof A);
+    REFUSED(emdf_blank(0, OF(A5), NONE, NONE, answer), EMDF_DESTINATION_TOO_SHORT, sizeof A);
+}
+
+/* ---- slices that overlap */
+
+static uint8_t apart[ROOM], apart_answer[EMDF_EDIT_ANSWER_BYTES];
+
+/* The call on slices that lie apart was made into `apart`, the other one into the room. */
+static void expect_same(const char *what, uint32_t number_apart, uint32_t number)
+{
+    size_t length = (size_t)emdf_word(answer, EMDF_WRITTEN_LENGTH);
+    checks++;
+    if (number_apart != EMDF_ACCEPTED || number != EMDF_ACCEPTED)
+        fail(what, "refused");
+    else if (memcmp(answer, apart_answer, sizeof apart_answer) != 0 || memcmp(room, apart, sizeof room) != 0)
+        fail(what, "another carrier than from slices apart");
+    else if (!is_filling(room + length, sizeof room - length))
+        fail(what, "a byte after the carrier");
+    memset(answer, FILLING, sizeof answer);
+    memset(room, FILLING, sizeof room);
+    memset(apart, FILLING, sizeof apart);
+}
+
+#define APART apart, sizeof apart, apart_answer
+#define HERE room, sizeof room, answer
+
+/* A source that has settings as its body, on its bytes 7 and on. */
+static void check_overlaps(void)
+{
+    uint8_t source[200], copy[200], settings[EMDF_SETTINGS_BYTES];
+    size_t length, first = 7, most = EMDF_PROTECTION_BYTES;
+    uint32_t number = emdf_edit_insert(OF(A), 0, 1, BARE, OF(emdf_settings_profile), source, sizeof source, answer);
+    length = (size_t)emdf_word(answer, EMDF_WRITTEN_LENGTH);
+    memset(answer, FILLING, sizeof answer);
+    memset(apart, FILLING, sizeof apart);
+    if (number != EMDF_ACCEPTED || memcmp(source + first, OF(emdf_settings_profile)) != 0) {
+        fail("a source with settings in it", "not made");
+        return;
+    }
+    memcpy(copy, source, length);
+    memcpy(settings, source + first, sizeof settings);
+    expect_same("body: the source", emdf_edit_body(source, length, 0, copy, length, APART),
+                emdf_edit_body(source, length, 0, source, length, HERE));
+    expect_same("settings: in the source", emdf_edit_settings(source, length, 0, OF(settings), APART),
+                emdf_edit_settings(source, length, 0, source + first, sizeof settings, HERE));
+    expect_same("insert: settings in the source, which is the body",
+                emdf_edit_insert(source, length, 1, 5, OF(settings), copy, length, APART),
+                emdf_edit_insert(source, length, 1, 5, source + first, sizeof settings, source, length, HERE));
+    expect_same("protection: two that overlap in the source",
+                emdf_edit_protection(source, length, copy, most, settings, most, APART),
+                emdf_edit_protection(source, length, source, most, source + first, most, HERE));
+    expect_same("blank: the same protection twice", emdf_blank(9, copy, most, source, most, APART),
+                emdf_blank(9, source, most, source, most, HERE));
+}
+
+int main(void)
+{
+    memset(answer, FILLING, sizeof answer);
+    memset(room, FILLING, sizeof room);
+    check_version();
+    check_bits();
+    check_carriers();
+    check_sources();
+    check_contents();
+    check_destinations();
+    check_overlaps();
+    printf("host: the version, and slices that are empty or overlap: %u checks, %u failures\n", checks, failures);
+    return failures != 0;
+}
