@@ -1,21 +1,12 @@
 -- Laws of the answers on carriers. Assumes nothing.
 use mathlib.Core.Path.{_≡_, refl, ap, _∙_}
 use mathlib.Core.List.{List, [], _∷_, _++_, append-nil, append-assoc}
-use Prim.Native.Nat.{ℕ, suc, _≤_}
-use native.Mathlib.Omega.{arith}
-use lib.ListN.{length, getD}
-use Rattle.openjoc_bitio.specs.declared.BitError.{BitError}
-use Rattle.openjoc_bitio.specs.declared.BitError.the-variants as BitError
-use Rattle.openjoc_bitio.specs.Cursor as bit
-use Rattle.emdf_format.specs.Calls.{figures}
-use Rattle.emdf_format.specs.declared.EmdfError.{EmdfError}
-use Rattle.emdf_format.specs.declared.EmdfError.the-variants.{TruncatedContainer, InvalidSyncword, Bit, InvalidVariableBits, VariableBitsGroupLimit, ValueOverflow, UnsupportedVersion, NonzeroReservedData, ReservedPrimaryProtectionLength, ExcessPadding, NonzeroPadding}
+use Prim.Native.Nat.{ℕ}
+use lib.ListN.{getD}
 use Rattle.emdf_format.specs.declared.Optional.{Optional}
 use Rattle.emdf_format.specs.declared.Optional.the-variants.{Absent, Present}
 use Rattle.emdf_format.specs.declared.EmdfPayloadConfig.{EmdfPayloadConfig}
-use Rattle.emdf_answers.specs.Bits.{figured}
-use Rattle.emdf_answers.specs.Carriers.{padded, optionalWords, configWords}
-use Rattle.emdf_answers.specs.declared.Figures.{Figures}
+use Rattle.emdf_answers.specs.Carriers.{optionalWords, configWords}
 
 -- ---- a row
 
@@ -67,42 +58,3 @@ config-listed t =
     (optional-then _
     (optional-then _
     (optional-then _ refl ∙ append-nil _)))))))))
-
--- ---- refusals
-
-two-figures-of-bits : (why : BitError) → length (bit.figures why) ≤ 2
-unfolding bit.figures
-two-figures-of-bits (BitError.EndOfInput requested remaining) = omega arith
-two-figures-of-bits (BitError.InvalidWidth width) = omega arith
-
-pub two-figures : (why : EmdfError) → length (figures why) ≤ 2
-unfolding figures
-two-figures (TruncatedContainer declared available) = omega arith
-two-figures (InvalidSyncword actual) = omega arith
-two-figures (Bit why) = two-figures-of-bits why
-two-figures (InvalidVariableBits width limit) = omega arith
-two-figures (VariableBitsGroupLimit width limit) = omega arith
-two-figures ValueOverflow = omega arith
-two-figures (UnsupportedVersion version) = omega arith
-two-figures NonzeroReservedData = omega arith
-two-figures ReservedPrimaryProtectionLength = omega arith
-two-figures (ExcessPadding bits) = omega arith
-two-figures NonzeroPadding = omega arith
-
--- what a refusal's first two figures leave out is 0
-pub padded-figures : (n : ℕ) (fs : List ℕ) → length fs ≤ 2 → padded (suc (suc n)) (getD fs 0 0 ∷ getD fs 1 0 ∷ []) ≡ padded (suc (suc n)) fs
-unfolding padded
-padded-figures n [] h = refl
-padded-figures n (a ∷ []) h = refl
-padded-figures n (a ∷ b ∷ []) h = refl
-padded-figures n (a ∷ b ∷ d ∷ fs) h = absurd (omega arith)
-
--- the code's figures are the definition's
-pub figured-words : (n : ℕ) (fs : List ℕ) {f : Figures} → length fs ≤ 2 → f ≡ figured n fs → padded 9 (f .first ∷ f .second ∷ []) ≡ padded 9 fs
-figured-words n fs h e = rw e (padded-figures 7 fs h)
-
-pub figured-padded : (n : ℕ) (fs : List ℕ) → figured n fs ≡ figured n (padded 2 fs)
-unfolding padded
-figured-padded n [] = refl
-figured-padded n (a ∷ []) = refl
-figured-padded n (a ∷ b ∷ fs) = refl

@@ -10,7 +10,7 @@ use lib.Seq.{getD-drop, length-take-le}
 use Rattle.emdf_format.specs.Edits.{Bytes}
 use Rattle.emdf_container.specs.Container.{bytesNumber, protectionBytes}
 use Rattle.emdf_answers.specs.Form.{bigEndian, words}
-use Rattle.emdf_answers.specs.Carriers.{padded}
+use Rattle.emdf_answers.specs.Replies.{padded}
 
 -- a byte more below a number
 bytes-of-sum : (n v b : ℕ) → b < 256 → bigEndian (suc n) (v * 256 + b) ≡ bigEndian n v ++ b ∷ []

@@ -1,9 +1,12 @@
 -- What the exported calls on a carrier return and write: docs/HOST.md, 'Carrier calls'. Assumes nothing.
-use Prim.Native.Nat.{ℕ, zero, suc, _*_, _/_}
+use mathlib.Core.Path.{_≡_}
+use Prim.Native.Nat.{ℕ, _*_, _/_}
 use mathlib.Core.List.{List, [], _∷_, _++_}
 use lib.ListN.{length, drop}
 use Rattle.emdf_format.specs.Reading.{reading}
-use Rattle.emdf_format.specs.Calls.{number, figures, recordsNumber, recordsFigures, bodyNumber, bodyFigures, recordsOf, inTable, Records, recorded, unrecorded}
+use Rattle.emdf_format.specs.Refusals.{refusalOf, recordsRefusal, bodyRefusal, figuresOf}
+use Rattle.emdf_format.specs.Calls.{recordsOf, inTable, Records, recorded, unrecorded, moveBody, foundAt, scratchAfter}
+use Rattle.emdf_format.specs.declared.Figures.{Figures}
 use Rattle.emdf_format.specs.declared.Optional.{Optional}
 use Rattle.emdf_format.specs.declared.Optional.the-variants.{Absent, Present}
 use Rattle.emdf_format.specs.declared.EmdfPayloadConfig.{EmdfPayloadConfig}
@@ -16,13 +19,8 @@ use Rattle.emdf_container.specs.declared.ProtectionBytes.{ProtectionBytes}
 use Rattle.openjoc_emdf.specs.declared.ParsedEmdf.{ParsedEmdf}
 use Rattle.openjoc_emdf.specs.declared.CarrierClassification.{CarrierClassification}
 use Rattle.openjoc_emdf.specs.declared.CarrierClassification.the-variants as CarrierClassification
-use Rattle.emdf_answers.specs.Form.{words}
-
--- n numbers: those given, and zeros after them
-unfoldable pub padded : ℕ → List ℕ → List ℕ
-padded zero vs = []
-padded (suc n) [] = 0 ∷ padded n []
-padded (suc n) (v ∷ vs) = v ∷ padded n vs
+use Rattle.emdf_answers.specs.Form.{rowBytes, words}
+use Rattle.emdf_answers.specs.Replies.{Reply, padded, acceptedReply, refusedReply, twoReply, Replies}
 
 -- ---- a reading's answer: 9 numbers
 
@@ -34,17 +32,13 @@ abbrev pub parsedWords : ParsedEmdf → List ℕ
 parsedWords p =
     p .«bytes_consumed» .0 ∷ p .container .«key_id» ∷ p .container .payloads ∷ protectionWords (p .container .protection .primary) ++ protectionWords (p .container .protection .secondary)
 
--- the carrier s read into a table of so many bytes, 216 a row
+-- the carrier s read into a table of so many bytes
 unfoldable pub readInto : List ℕ → List ℕ → Records
-readInto s table = inTable (length table / 216) (reading s)
+readInto s table = inTable (length table / rowBytes) (reading s)
 
-unfoldable pub readNumber : Records → ℕ
-readNumber (recorded n c) = 0
-readNumber (unrecorded why) = recordsNumber why
-
-unfoldable pub readWords : Records → List ℕ
-readWords (recorded n c) = parsedWords (parsedEmdf n c)
-readWords (unrecorded why) = padded 9 (recordsFigures why)
+unfoldable pub readReply : Records → Reply
+readReply (recorded n c) = acceptedReply (parsedWords (parsedEmdf n c))
+readReply (unrecorded why) = refusedReply 9 (figuresOf (recordsRefusal why))
 
 -- ---- the table: a row of 27 numbers a payload
 
@@ -84,31 +78,32 @@ unfoldable pub rowsBytes : List PayloadRecord → List ℕ
 rowsBytes [] = []
 rowsBytes (r ∷ rs) = words (recordWords r) ++ rowsBytes rs
 
--- the table's bytes after a reading: a row of 216 bytes a payload, the rest as it was; a refusal leaves all of it
+-- the table's bytes after a reading: a row a payload, the rest as it was; a refusal leaves all of it
 unfoldable pub rowsAfter : Records → List ℕ → List ℕ
-rowsAfter (recorded n c) table = rowsBytes (recordsOf (c .found)) ++ drop (216 * length (c .found)) table
+rowsAfter (recorded n c) table = rowsBytes (recordsOf (c .found)) ++ drop (rowBytes * length (c .found)) table
 rowsAfter (unrecorded why) table = table
+
+abbrev pub ReadReplies : Records → ℕ → List ℕ → List ℕ → List ℕ → Type 0
+ReadReplies t r answer table exit = Replies (readReply t) r answer × (exit ≡ rowsAfter t table)
 
 -- ---- a classification's answer: 10 numbers, the first of them the class
 
-unfoldable pub classNumber : CarrierClassification → ℕ
-classNumber CarrierClassification.NonEmdf = 0
-classNumber (CarrierClassification.Parsed p) = 0
-classNumber (CarrierClassification.TrailingData n len) = 0
-classNumber (CarrierClassification.Malformed why) = number why
+abbrev pub malformedReply : Figures → Reply
+malformedReply f = record { number = f .number; numbers = 3 ∷ refusedReply 9 f .numbers }
 
-unfoldable pub classWords : CarrierClassification → List ℕ
-classWords CarrierClassification.NonEmdf = padded 10 []
-classWords (CarrierClassification.Parsed p) = 1 ∷ parsedWords p
-classWords (CarrierClassification.TrailingData n len) = padded 10 (2 ∷ n .0 ∷ len .0 ∷ [])
-classWords (CarrierClassification.Malformed why) = padded 10 (3 ∷ figures why)
+unfoldable pub classReply : CarrierClassification → Reply
+classReply CarrierClassification.NonEmdf = acceptedReply (padded 10 [])
+classReply (CarrierClassification.Parsed p) = acceptedReply (1 ∷ parsedWords p)
+classReply (CarrierClassification.TrailingData n len) = acceptedReply (padded 10 (2 ∷ n .0 ∷ len .0 ∷ []))
+classReply (CarrierClassification.Malformed why) = malformedReply (figuresOf (refusalOf why))
 
 -- ---- a body's move: 2 numbers
 
-unfoldable pub moveNumber : BodyAnswer → ℕ
-moveNumber (BodyAnswer.Body start len) = 0
-moveNumber (BodyAnswer.Refused why) = bodyNumber why
+unfoldable pub moveFigures : BodyAnswer → Figures
+moveFigures (BodyAnswer.Body start len) = record { number = 0; first = start .0; second = len .0 }
+moveFigures (BodyAnswer.Refused why) = figuresOf (bodyRefusal why)
 
-unfoldable pub moveWords : BodyAnswer → List ℕ
-moveWords (BodyAnswer.Body start len) = start .0 ∷ len .0 ∷ []
-moveWords (BodyAnswer.Refused why) = padded 2 (bodyFigures why)
+abbrev pub MoveReplies : List ℕ → ℕ → List ℕ → ℕ → List ℕ → List ℕ → Type 0
+MoveReplies s place scratch r answer exit =
+    Replies (twoReply (moveFigures (moveBody (reading s) place (length scratch)))) r answer
+    × (exit ≡ scratchAfter (foundAt (reading s) place) scratch)

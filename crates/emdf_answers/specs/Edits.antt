@@ -1,16 +1,19 @@
 -- What the exported edits and the blank call return and write: docs/HOST.md, 'Edit calls'. Assumes nothing.
+use mathlib.Core.Path.{_≡_}
+use mathlib.Core.List.{List}
 use Prim.Native.Nat.{ℕ}
-use mathlib.Core.List.{List, [], _∷_}
-use Rattle.emdf_format.specs.Calls.{editNumber, editFigures}
+use Rattle.emdf_format.specs.Refusals.{editRefusal, figuresOf}
+use Rattle.emdf_format.specs.Edits.{Edited}
 use Rattle.emdf_format.specs.declared.EditAnswer.{EditAnswer}
 use Rattle.emdf_format.specs.declared.EditAnswer.the-variants.{Written, Refused}
-use Rattle.emdf_answers.specs.Carriers.{padded}
+use Rattle.emdf_format.specs.declared.Figures.{Figures}
+use Rattle.emdf_answers.specs.Replies.{twoReply, Replies}
 
-unfoldable pub editedNumber : EditAnswer → ℕ
-editedNumber (Written n) = 0
-editedNumber (Refused why) = editNumber why
+-- accepted: the new carrier's length
+unfoldable pub editedFigures : EditAnswer → Figures
+editedFigures (Written n) = record { number = 0; first = n .0; second = 0 }
+editedFigures (Refused why) = figuresOf (editRefusal why)
 
--- 2 numbers. Accepted: the new carrier's length; refused: the figures
-unfoldable pub editedWords : EditAnswer → List ℕ
-editedWords (Written n) = n .0 ∷ 0 ∷ []
-editedWords (Refused why) = padded 2 (editFigures why)
+-- the number, the answer's bytes, and the destination at exit
+abbrev pub EditReplies : Edited → ℕ → List ℕ → List ℕ → Type 0
+EditReplies e r answer exit = Replies (twoReply (editedFigures (e .answer))) r answer × (exit ≡ e .destination)

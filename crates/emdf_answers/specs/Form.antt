@@ -2,6 +2,13 @@
 use Prim.Native.Nat.{ℕ, zero, suc, _*_, _/_, _%_, _^_}
 use mathlib.Core.List.{List, [], _∷_, _++_}
 
+-- a payload's row in a host's table, and the settings in it
+abbrev pub rowBytes : ℕ
+rowBytes = 216
+
+abbrev pub settingsBytes : ℕ
+settingsBytes = 144
+
 -- v in n bytes
 unfoldable pub bigEndian : ℕ → ℕ → List ℕ
 bigEndian zero v = []
@@ -11,3 +18,7 @@ bigEndian (suc n) v = v / 2 ^ (8 * n) % 256 ∷ bigEndian n v
 unfoldable pub words : List ℕ → List ℕ
 words [] = []
 words (v ∷ vs) = bigEndian 8 v ++ words vs
+
+-- the version of the forms: it rises whenever the size or the meaning of an answer, a row, settings or a refusal changes
+unfoldable pub version : ℕ
+version = 1

@@ -1,29 +1,25 @@
 -- What the exported verdict returns and writes: docs/HOST.md, 'emdf_verdict'. Assumes nothing.
 use Prim.Native.Nat.{ℕ, zero, suc}
-use mathlib.Core.List.{List, [], _∷_}
-use Rattle.emdf_format.specs.Calls.{profileNumber, profileFigures}
+use mathlib.Core.List.{[], _∷_}
+use Rattle.emdf_format.specs.Refusals.{profileRefusal, figuresOf}
 use Rattle.emdf_format.specs.declared.JocValidationProfile.{JocValidationProfile}
 use Rattle.emdf_format.specs.declared.JocValidationProfile.the-variants.{EtsiStrict, ObservedVendorCompat}
 use Rattle.emdf_format.specs.declared.JocValidationStatus.{JocValidationStatus}
 use Rattle.emdf_format.specs.declared.JocValidationStatus.the-variants.{NormativeCompliant, AcceptedWithDeviation}
 use Rattle.emdf_format.specs.declared.JocProfileAnswer.{JocProfileAnswer}
 use Rattle.emdf_format.specs.declared.JocProfileAnswer.the-variants.{Accepted, Refused}
-use Rattle.emdf_answers.specs.Carriers.{padded}
+use Rattle.emdf_answers.specs.Replies.{Reply, acceptedReply, refusedReply}
 
 -- the policy of a host's number
 unfoldable pub profileOf : ℕ → JocValidationProfile
 profileOf zero = EtsiStrict
 profileOf (suc n) = ObservedVendorCompat
 
-unfoldable pub verdictNumber : JocProfileAnswer → ℕ
-verdictNumber (Accepted v) = 0
-verdictNumber (Refused why) = profileNumber why
-
 abbrev pub statusWord : JocValidationStatus → ℕ
 statusWord NormativeCompliant = 0
 statusWord AcceptedWithDeviation = 1
 
--- accepted: the places of the OAMD and the JOC payload, the marks, whether any is set; refused: the figures
-unfoldable pub verdictWords : JocProfileAnswer → List ℕ
-verdictWords (Accepted v) = v .oamd ∷ v .joc ∷ v .deviations ∷ statusWord (v .status) ∷ []
-verdictWords (Refused why) = padded 4 (profileFigures why)
+-- accepted: the places of the OAMD and the JOC payload, the marks, whether any is set
+unfoldable pub verdictReply : JocProfileAnswer → Reply
+verdictReply (Accepted v) = acceptedReply (v .oamd ∷ v .joc ∷ v .deviations ∷ statusWord (v .status) ∷ [])
+verdictReply (Refused why) = refusedReply 4 (figuresOf (profileRefusal why))

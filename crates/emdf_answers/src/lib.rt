@@ -3,30 +3,32 @@ ghost use mathlib.Core.Path.{_≡_};
 ghost use mathlib.Core.List.{[], _∷_};
 ghost use Prim.Native.Nat.{_+_, _*_, _<_, _≤_};
 ghost use lib.ListN.{length, getD};
-ghost use Rattle.openjoc_bitio.specs.Cursor.{number as bitNumber, figures as bitFigures};
-ghost use Rattle.emdf_format.specs.Calls.{number, figures, bodyNumber, bodyFigures, editNumber, editFigures, profileNumber, profileFigures};
-ghost use Rattle.emdf_answers.specs.Bits.{accepted, refusal, bitsReply, bitReply, windowReply, alignReply, numbered, figured};
-ghost use Rattle.emdf_answers.specs.Fields.{emdfRefusal, fieldReply};
-ghost use Rattle.emdf_answers.specs.Carriers.{padded, parsedWords, optionalWords, configWords, traceWords, classNumber, classWords, moveNumber, moveWords};
-ghost use Rattle.emdf_answers.specs.Verdict.{profileOf, verdictNumber, verdictWords, statusWord};
-ghost use Rattle.emdf_answers.specs.Edits.{editedNumber, editedWords};
+ghost use Rattle.emdf_format.specs.declared.Figures.{Figures};
+ghost use Rattle.emdf_answers.specs.Bits.{accepted, refusedAt, bitsReply, bitReply, windowReply, alignReply, figuresAt};
+ghost use Rattle.emdf_answers.specs.Fields.{fieldReply};
+ghost use Rattle.emdf_answers.specs.Replies.{padded};
+ghost use Rattle.emdf_answers.specs.Carriers.{parsedWords, optionalWords, configWords, traceWords, classReply, moveFigures};
+ghost use Rattle.emdf_answers.specs.Verdict.{profileOf, verdictReply, statusWord};
+ghost use Rattle.emdf_answers.specs.Edits.{editedFigures};
 use emdf_fields::FieldAnswer;
 use emdf_format::BodyAnswer;
-use emdf_format::BodyError;
 use emdf_format::EditAnswer;
-use emdf_format::EditError;
 use emdf_format::EmdfError;
 use emdf_format::EmdfPayloadBitTrace;
 use emdf_format::EmdfPayloadConfig;
+use emdf_format::Figures;
 use emdf_format::JocProfileAnswer;
-use emdf_format::JocProfileError;
 use emdf_format::JocValidationProfile;
 use emdf_format::JocValidationStatus;
 use emdf_format::Optional;
+use emdf_refusals::body_refusal;
+use emdf_refusals::edit_refusal;
+use emdf_refusals::figures_of;
+use emdf_refusals::profile_refusal;
+use emdf_refusals::refusal_of;
 use openjoc_bitio::AlignAnswer;
 use openjoc_bitio::BitAnswer;
 use openjoc_bitio::BitCursor;
-use openjoc_bitio::BitError;
 use openjoc_bitio::BitsAnswer;
 use openjoc_bitio::WindowAnswer;
 use openjoc_emdf::CarrierClassification;
@@ -41,19 +43,12 @@ pub struct BitReply {
     pub window: BitCursor,
 }
 
-// What a call returns, and two figures.
-pub struct Figures {
-    pub number: u32,
-    pub first: u64,
-    pub second: u64,
-}
-
 pub fn field_reply(answer: FieldAnswer) -> BitReply
     ensures { λ r. ⌜ r ≡ fieldReply answer ⌝ }
 {
     match answer {
         FieldAnswer::Value(value, next) => accepted_at(next, value),
-        FieldAnswer::Refused(why, at) => emdf_refused_at(at, why),
+        FieldAnswer::Refused(why, at) => refused_at(at, why),
     }
 }
 
@@ -62,7 +57,7 @@ pub fn bits_reply(cursor: BitCursor, answer: BitsAnswer) -> BitReply
 {
     match answer {
         BitsAnswer::Value(value, next) => accepted_at(next, value),
-        BitsAnswer::Refused(why) => refused_at(cursor, why),
+        BitsAnswer::Refused(why) => refused_at(cursor, EmdfError::Bit(why)),
     }
 }
 
@@ -71,7 +66,7 @@ pub fn bit_reply(cursor: BitCursor, answer: BitAnswer) -> BitReply
 {
     match answer {
         BitAnswer::Bit(bit, next) => accepted_at(next, bit as u64),
-        BitAnswer::Refused(why) => refused_at(cursor, why),
+        BitAnswer::Refused(why) => refused_at(cursor, EmdfError::Bit(why)),
     }
 }
 
@@ -86,7 +81,7 @@ pub fn window_reply(cursor: BitCursor, answer: WindowAnswer) -> BitReply
             cursor: next,
             window,
         },
-        WindowAnswer::Refused(why) => refused_at(cursor, why),
+        WindowAnswer::Refused(why) => refused_at(cursor, EmdfError::Bit(why)),
     }
 }
 
@@ -95,37 +90,36 @@ pub fn align_reply(cursor: BitCursor, answer: AlignAnswer) -> BitReply
 {
     match answer {
         AlignAnswer::Aligned(next) => accepted_at(next, 0),
-        AlignAnswer::Refused(why) => refused_at(cursor, why),
+        AlignAnswer::Refused(why) => refused_at(cursor, EmdfError::Bit(why)),
     }
 }
 
 pub fn accepted_at(cursor: BitCursor, value: u64) -> BitReply
     ensures { λ r. ⌜ r ≡ accepted cursor value ⌝ }
 {
-    figures_at(cursor, 0, value, 0)
+    figures_at(
+        cursor,
+        Figures {
+            number: 0,
+            first: value,
+            second: 0,
+        },
+    )
 }
 
-fn refused_at(cursor: BitCursor, why: BitError) -> BitReply
-    ensures { λ r. ⌜ r ≡ refusal cursor why ⌝ }
+fn refused_at(cursor: BitCursor, why: EmdfError) -> BitReply
+    ensures { λ r. ⌜ r ≡ refusedAt cursor why ⌝ }
 {
-    let f = bit_figures(why);
-    figures_at(cursor, f.number, f.first, f.second)
+    figures_at(cursor, figures_of(refusal_of(why)))
 }
 
-fn emdf_refused_at(cursor: BitCursor, why: EmdfError) -> BitReply
-    ensures { λ r. ⌜ r ≡ emdfRefusal cursor why ⌝ }
-{
-    let f = emdf_figures(why);
-    figures_at(cursor, f.number, f.first, f.second)
-}
-
-fn figures_at(cursor: BitCursor, number: u32, first: u64, second: u64) -> BitReply
-    ensures { λ r. ⌜ r ≡ numbered cursor number first second ⌝ }
+fn figures_at(cursor: BitCursor, f: Figures) -> BitReply
+    ensures { λ r. ⌜ r ≡ figuresAt cursor f ⌝ }
 {
     BitReply {
-        number,
-        first,
-        second,
+        number: f.number,
+        first: f.first,
+        second: f.second,
         cursor,
         window: BitCursor {
             position: 0,
@@ -136,7 +130,7 @@ fn figures_at(cursor: BitCursor, number: u32, first: u64, second: u64) -> BitRep
 
 // The class, and nine numbers.
 pub fn class_words(class: CarrierClassification) -> [u64; 10]
-    ensures { λ r. ⌜ r ≡ classWords class ⌝ }
+    ensures { λ r. ⌜ r ≡ classReply class .numbers ⌝ }
 {
     match class {
         CarrierClassification::NonEmdf => [0; 10],
@@ -146,17 +140,30 @@ pub fn class_words(class: CarrierClassification) -> [u64; 10]
             carrier_bytes,
         } => with_class(
             2,
-            figure_words(with_figures(0, container_bytes.0 as u64, carrier_bytes.0 as u64)),
+            [
+                container_bytes.0 as u64,
+                carrier_bytes.0 as u64,
+                0,
+                0,
+                0,
+                0,
+                0,
+                0,
+                0,
+            ],
         ),
-        CarrierClassification::Malformed(why) => with_class(3, figure_words(emdf_figures(why))),
+        CarrierClassification::Malformed(why) => with_class(
+            3,
+            figure_words(figures_of(refusal_of(why))),
+        ),
     }
 }
 
 pub fn class_number(class: CarrierClassification) -> u32
-    ensures { λ r. ⌜ r ≡ classNumber class ⌝ }
+    ensures { λ r. ⌜ r ≡ classReply class .number ⌝ }
 {
     match class {
-        CarrierClassification::Malformed(why) => emdf_figures(why).number,
+        CarrierClassification::Malformed(why) => figures_of(refusal_of(why)).number,
         _ => 0,
     }
 }
@@ -262,43 +269,28 @@ pub fn trace_words(t: EmdfPayloadBitTrace) -> [u64; 8]
 }
 
 pub fn move_figures(moved: BodyAnswer) -> Figures
-    ensures { λ r. ⌜ r ≡ figured (moveNumber moved) (moveWords moved) ⌝ }
+    ensures { λ r. ⌜ r ≡ moveFigures moved ⌝ }
 {
     match moved {
-        BodyAnswer::Body(start, length) => with_figures(0, start.0 as u64, length.0 as u64),
-        BodyAnswer::Refused(why) => body_figures(why),
-    }
-}
-
-fn body_figures(why: BodyError) -> Figures
-    ensures { λ r. ⌜ r ≡ figured (bodyNumber why) (bodyFigures why) ⌝ }
-{
-    match why {
-        BodyError::Emdf(inner) => emdf_figures(inner),
-        BodyError::NoSuchPayload => with_figures(16, 0, 0),
-        BodyError::ScratchTooShort { needed } => with_figures(19, needed.0 as u64, 0),
+        BodyAnswer::Body(start, length) => Figures {
+            number: 0,
+            first: start.0 as u64,
+            second: length.0 as u64,
+        },
+        BodyAnswer::Refused(why) => figures_of(body_refusal(why)),
     }
 }
 
 pub fn edited_figures(edited: EditAnswer) -> Figures
-    ensures { λ r. ⌜ r ≡ figured (editedNumber edited) (editedWords edited) ⌝ }
+    ensures { λ r. ⌜ r ≡ editedFigures edited ⌝ }
 {
     match edited {
-        EditAnswer::Written(length) => with_figures(0, length.0 as u64, 0),
-        EditAnswer::Refused(why) => edit_figures(why),
-    }
-}
-
-fn edit_figures(why: EditError) -> Figures
-    ensures { λ r. ⌜ r ≡ figured (editNumber why) (editFigures why) ⌝ }
-{
-    match why {
-        EditError::Emdf(inner) => emdf_figures(inner),
-        EditError::TrailingData => with_figures(20, 0, 0),
-        EditError::NoSuchPlace => with_figures(16, 0, 0),
-        EditError::NotWritable => with_figures(17, 0, 0),
-        EditError::TooLong => with_figures(18, 0, 0),
-        EditError::DestinationTooShort { needed } => with_figures(19, needed.0 as u64, 0),
+        EditAnswer::Written(length) => Figures {
+            number: 0,
+            first: length.0 as u64,
+            second: 0,
+        },
+        EditAnswer::Refused(why) => figures_of(edit_refusal(why)),
     }
 }
 
@@ -313,7 +305,7 @@ pub fn profile_of(number: u32) -> JocValidationProfile
 
 // Both places, the marks and whether any is set, or a refusal's figures.
 pub fn verdict_words(judged: JocProfileAnswer) -> [u64; 4]
-    ensures { λ r. ⌜ r ≡ verdictWords judged ⌝ }
+    ensures { λ r. ⌜ r ≡ verdictReply judged .numbers ⌝ }
 {
     match judged {
         JocProfileAnswer::Accepted(v) => {
@@ -326,18 +318,18 @@ pub fn verdict_words(judged: JocProfileAnswer) -> [u64; 4]
             ]
         }
         JocProfileAnswer::Refused(why) => {
-            let f = profile_figures(why);
+            let f = figures_of(profile_refusal(why));
             [f.first, f.second, 0, 0]
         }
     }
 }
 
 pub fn verdict_number(judged: JocProfileAnswer) -> u32
-    ensures { λ r. ⌜ r ≡ verdictNumber judged ⌝ }
+    ensures { λ r. ⌜ r ≡ verdictReply judged .number ⌝ }
 {
     match judged {
         JocProfileAnswer::Accepted(_) => 0,
-        JocProfileAnswer::Refused(why) => profile_figures(why).number,
+        JocProfileAnswer::Refused(why) => figures_of(profile_refusal(why)).number,
     }
 }
 
@@ -347,66 +339,5 @@ fn status_word(status: JocValidationStatus) -> u64
     match status {
         JocValidationStatus::NormativeCompliant => 0,
         JocValidationStatus::AcceptedWithDeviation => 1,
-    }
-}
-
-fn profile_figures(why: JocProfileError) -> Figures
-    ensures { λ r. ⌜ r ≡ figured (profileNumber why) (profileFigures why) ⌝ }
-{
-    match why {
-        JocProfileError::Emdf(inner) => emdf_figures(inner),
-        JocProfileError::PayloadCount { oamd, joc } => with_figures(14, oamd as u64, joc as u64),
-        JocProfileError::Configuration { deviations, count } => {
-            with_figures(15, deviations as u64, count as u64)
-        }
-    }
-}
-
-pub fn emdf_figures(why: EmdfError) -> Figures
-    ensures { λ r. ⌜ r ≡ figured (number why) (figures why) ⌝ }
-{
-    match why {
-        EmdfError::TruncatedContainer {
-            declared,
-            available,
-        } => with_figures(1, declared as u64, available as u64),
-        EmdfError::InvalidSyncword { actual } => with_figures(2, actual as u64, 0),
-        EmdfError::Bit(inner) => bit_figures(inner),
-        EmdfError::InvalidVariableBits { width, limit } => with_figures(
-            5,
-            width as u64,
-            limit as u64,
-        ),
-        EmdfError::VariableBitsGroupLimit { width, limit } => {
-            with_figures(6, width as u64, limit as u64)
-        }
-        EmdfError::ValueOverflow => with_figures(7, 0, 0),
-        EmdfError::UnsupportedVersion { version } => with_figures(8, version, 0),
-        EmdfError::NonzeroReservedData => with_figures(9, 0, 0),
-        EmdfError::ReservedPrimaryProtectionLength => with_figures(10, 0, 0),
-        EmdfError::ExcessPadding { bits } => with_figures(11, bits as u64, 0),
-        EmdfError::NonzeroPadding => with_figures(12, 0, 0),
-    }
-}
-
-fn bit_figures(why: BitError) -> Figures
-    ensures { λ r. ⌜ r ≡ figured (bitNumber why) (bitFigures why) ⌝ }
-{
-    match why {
-        BitError::EndOfInput {
-            requested,
-            remaining,
-        } => with_figures(3, requested as u64, remaining as u64),
-        BitError::InvalidWidth { width } => with_figures(4, width as u64, 0),
-    }
-}
-
-pub fn with_figures(number: u32, first: u64, second: u64) -> Figures
-    ensures { λ r. ⌜ r ≡ record { number = number; first = first; second = second } ⌝ }
-{
-    Figures {
-        number,
-        first,
-        second,
     }
 }

@@ -15,7 +15,7 @@ use Rattle.emdf_format.specs.declared.BodyAnswer.the-variants.{Body, Refused}
 use Rattle.emdf_format.specs.declared.BodyError.{BodyError}
 use Rattle.emdf_format.specs.declared.BodyError.the-variants.{ScratchTooShort}
 use Rattle.emdf_format.specs.Reading.{Found, Reading, accepted, refusal, reading}
-use Rattle.emdf_format.specs.Calls.{bodyStart, startsOnByte, octetsAt, BodiesAtSpans, moved, moveBody, foundAt, scratchAfter, chooseBody}
+use Rattle.emdf_format.specs.Calls.{bodyStart, startsOnByte, octetsAt, BodiesAtSpans, foundMoved, moveBody, foundAt, scratchAfter, chooseBody}
 use Rattle.emdf_format.proofs.Carrier.{read-limit}
 use Rattle.emdf_format.proofs.Spans.{bodyEnd, Follow, laid}
 use Rattle.emdf_bodies.specs.Bodies.{bodyOf, findBody}
@@ -39,7 +39,7 @@ bodies-at s a b (y ∷ xs) (suc k) (i, j, f) (g, t, h) e = bodies-at s (bodyEnd 
 pub record Standing (s : List ℕ) (k p n : ℕ) : Type 0 where
   pub payload : Found
   pub found : foundAt (reading s) k ≡ some payload
-  pub move : (room : ℕ) → moveBody (reading s) k room ≡ moved (some payload) room
+  pub move : (room : ℕ) → moveBody (reading s) k room ≡ foundMoved (some payload) room
   pub start : bodyStart payload ≡ p
   pub size : length (payload .body) ≡ n
   pub octets : payload .body ≡ octetsAt s p n
@@ -77,8 +77,8 @@ pub record Says (s : List ℕ) (k : ℕ) (scratch : List ℕ) (a : BodyAnswer) (
   pub after : after′ ≡ scratchAfter (foundAt (reading s) k) scratch
   pub chosen : body ≡ chooseBody (foundAt (reading s) k) s scratch
 
-missing : (o : Option Found) (room : ℕ) {why : BodyError} → bodyOf o ≡ Refused why → (o ≡ none) × (Refused why ≡ moved o room)
-unfolding bodyOf moved
+missing : (o : Option Found) (room : ℕ) {why : BodyError} → bodyOf o ≡ Refused why → (o ≡ none) × (Refused why ≡ foundMoved o room)
+unfolding bodyOf foundMoved
 missing none room h = (refl, sym h)
 missing (some x) room h = absurd (let w : _≡_ {A = ℕ} 0 1 = cc in omega arith)
 
@@ -97,7 +97,7 @@ module _ (s : List ℕ) (k : ℕ) (scratch : List ℕ) where
     x = b .payload
 
     pub on-byte : p .0 % 8 ≡ 0 → Says s k scratch (Body p n) scratch (take (n .0) (drop (p .0 / 8) s))
-    unfolding moved scratchAfter chooseBody startsOnByte
+    unfolding foundMoved scratchAfter chooseBody startsOnByte
     on-byte z =
         let e : eqb (bodyStart x % 8) 0 ≡ true = rw (b .start) (eq-eqb _ 0 z) in
         record { answer = rw (b .move, e, b .start, b .size); after = rw (b .found, e); chosen = rw (b .found, e, b .start, b .size) }
@@ -107,13 +107,13 @@ module _ (s : List ℕ) (k : ℕ) (scratch : List ℕ) where
       off-byte = rw (b .start) (ne-eqb _ 0 z)
 
       pub no-room : length scratch < n .0 → Says s k scratch (Refused (ScratchTooShort n)) scratch []
-      unfolding moved scratchAfter chooseBody startsOnByte
+      unfolding foundMoved scratchAfter chooseBody startsOnByte
       no-room l =
           let r : leb (length (x .body)) (length scratch) ≡ false = rw (b .size) (lt-leb _ _ l) in
           record { answer = rw (b .move, off-byte, r, b .size); after = rw (b .found, off-byte, r); chosen = rw (b .found, off-byte, r) }
 
       pub in-scratch : n .0 ≤ length scratch → Says s k scratch (Body p n) (octetsAt s (p .0) (n .0) ++ drop (n .0) scratch) (take (n .0) scratch)
-      unfolding moved scratchAfter chooseBody startsOnByte
+      unfolding foundMoved scratchAfter chooseBody startsOnByte
       in-scratch l =
           let r : leb (length (x .body)) (length scratch) ≡ true = rw (b .size) (le-leb _ _ l) in
           record { answer = rw (b .move, off-byte, r, b .start, b .size); after = rw (b .found, off-byte, r, b .size, b .octets); chosen = rw (b .found, off-byte, r, b .size) }

@@ -2,9 +2,9 @@
 ghost use mathlib.Core.Path.{_≡_};
 ghost use mathlib.Core.List.{List};
 ghost use Prim.Native.Nat.{_-_, _/_, _≤_};
-ghost use lib.ListN.{length, getElem?};
+ghost use lib.ListN.{getElem?};
 ghost use Rattle.emdf_format.specs.Reading.{Found, reading};
-ghost use Rattle.emdf_format.specs.Calls.{moveBody, foundAt, scratchAfter, chooseBody};
+ghost use Rattle.emdf_format.specs.Calls.{foundAt, MovesBody, chooseBody};
 ghost use Rattle.emdf_payloads.specs.Payloads.{Listed};
 ghost use Rattle.emdf_bodies.specs.Bodies.{bodyOf, findBody};
 use emdf_format::BodyAnswer;
@@ -19,7 +19,7 @@ use openjoc_emdf::open_carrier;
 
 // Moves a body that doesn't start on a byte to the first bytes of scratch, and answers where it is and how long.
 pub fn move_body(bytes: &[u8], place: usize, scratch: &mut [u8]) -> BodyAnswer
-    ensures { λ r. ⌜ (r ≡ moveBody (reading (now (bytes .entry))) place (length (now (scratch .entry)))) × (now (scratch .exit) ≡ scratchAfter (foundAt (reading (now (bytes .entry))) place) (now (scratch .entry))) ⌝ }
+    ensures { λ r. ⌜ MovesBody (now (bytes .entry)) place (now (scratch .entry)) r (now (scratch .exit)) ⌝ }
 {
     let a = find_body(bytes, place);
     let BodyAnswer::Body(start, length) = a else {

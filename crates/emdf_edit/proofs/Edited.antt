@@ -12,7 +12,7 @@ use Rattle.emdf_format.specs.declared.EditAnswer.{EditAnswer}
 use Rattle.emdf_format.specs.declared.EditAnswer.the-variants.{Written, Refused}
 use Rattle.emdf_format.specs.Syntax.{_⨟_, octetBits}
 use Rattle.emdf_format.specs.Contents.{carrier}
-use Rattle.emdf_format.specs.Edits.{Edit, Bytes, carrierLength, stepAnswer, written, edited}
+use Rattle.emdf_format.specs.Edits.{Bytes, carrierLength, stepAnswer, written, edited}
 use Rattle.emdf_format.proofs.Standing.{length-then}
 use Rattle.emdf_format.proofs.Bytes.{declared-is}
 use Rattle.emdf_format.proofs.Payloads.{length-octets}
@@ -20,9 +20,11 @@ use Rattle.emdf_format.proofs.Splice.{⨟-assoc}
 use Rattle.emdf_writer.specs.Writing.{bitRun}
 use Rattle.emdf_plan.specs.declared.Cut.{Cut}
 use Rattle.emdf_plan.specs.declared.Plan.the-variants as Plan
-use Rattle.emdf_plan.specs.Plan.{newBits, planOf, spliced}
+use Rattle.emdf_plan.specs.Plan.{editOf, newBits, planOf, spliced}
 use Rattle.emdf_field_writer.specs.Fields.{syncBits}
+use Rattle.emdf_plan.specs.declared.Request.{Request}
 use Rattle.emdf_edit.specs.Cuts.{keptBits, Within}
+use Rattle.emdf_edit.specs.Sequences.{Called}
 use Rattle.emdf_field_writer.proofs.Written.{front-written}
 use Rattle.emdf_plan.proofs.Spliced.{Spliceable, plan-refused}
 
@@ -76,16 +78,16 @@ module _ {s : List ℕ} {cut : Cut} {new : List ℕ} (w : Within s cut new) wher
 
 -- ---- the calls
 
-module _ (e : Edit) (src dst : List ℕ) where
+module _ (q : Request) (a b src dst : List ℕ) where
   abbrev Answers : EditAnswer → List ℕ → Type 0
-  Answers r d = (r ≡ edited e src dst .answer) × (d ≡ edited e src dst .destination)
+  Answers = Called (editOf q a b) src dst
 
-  pub refused : {why : EditError} → planOf e src (length dst) ≡ Plan.Refused why → Answers (Refused why) dst
+  pub refused : {why : EditError} → planOf q a b src (length dst) ≡ Plan.Refused why → Answers (Refused why) dst
   unfolding edited stepAnswer written
-  refused {why} h = rw (plan-refused e src (length dst) why h) (refl, refl)
+  refused {why} h = rw (plan-refused q a b src (length dst) why h) (refl, refl)
 
-  module _ {cut : Cut} (p : Spliceable e src (length dst) cut) where
-    pub within : Within src cut (newBits e)
+  module _ {cut : Cut} (p : Spliceable q a b src (length dst) cut) where
+    pub within : Within src cut (newBits q a b)
     unfolding keptBits
     within =
         let d = declared-is (p .contents) in
@@ -105,7 +107,7 @@ module _ (e : Edit) (src dst : List ℕ) where
 
     -- front is what stands in the first bytes after their bits are put
     pub spliced-answer : {n : ℕ} (front : List ℕ) → n ≡ 4 + cut .size .0 → Bytes dst → Bytes (front ++ drop n dst)
-        → octetBits front ≡ sets (octetBits (take n dst)) 0 (spliced src cut (newBits e)) → Answers (Written (record { 0 = n })) (front ++ drop n dst)
+        → octetBits front ≡ sets (octetBits (take n dst)) 0 (spliced src cut (newBits q a b)) → Answers (Written (record { 0 = n })) (front ++ drop n dst)
     unfolding edited stepAnswer written
     spliced-answer {n} front z f g h =
         let l : n ≡ carrierLength (p .contents) = omega (arith, z, p .size) in

@@ -3,13 +3,13 @@ use mathlib.Core.Path.{_≡_, refl, _∙_}
 use mathlib.Core.List.{List}
 use Prim.Native.Nat.{ℕ}
 use Rattle.emdf_format.specs.declared.EditAnswer.{EditAnswer}
-use Rattle.emdf_format.specs.Edits.{Task, leaves, answers}
+use Rattle.emdf_format.specs.Edits.{Call, done, leaves, answers}
 use Rattle.emdf_format.proofs.Lists.{equality-of-carriers}
 use Rattle.emdf_edit.specs.Sequences.{Ran, none, next, EqualityOfCalls}
 
 -- the calls leave and answer what the definitions do
-ran : {src left : List ℕ} {ts : List Task} {rs : List EditAnswer} → Ran src ts left rs → (left ≡ leaves src ts) × (rs ≡ answers src ts)
-unfolding leaves answers
+ran : {src left : List ℕ} {ts : List Call} {rs : List EditAnswer} → Ran src ts left rs → (left ≡ leaves src ts) × (rs ≡ answers src ts)
+unfolding done leaves answers
 ran none = (refl, refl)
 ran (next (a, d) r) = let (l, m) = ran r in rw (l, m, a, d) (refl, refl)
 

@@ -6,28 +6,28 @@ use Prim.Native.Nat.{ℕ}
 use lib.ListN.{length}
 use Rattle.emdf_format.specs.declared.EditAnswer.{EditAnswer}
 use Rattle.emdf_format.specs.Reading.{Container, accepted, reading, contentsOf}
-use Rattle.emdf_format.specs.Edits.{Edit, edited, Task, nextSource, plainContents, plainAnswers, Bytes, TaskBytes, ReadsAs}
+use Rattle.emdf_format.specs.Edits.{Edit, edited, Gives, Call, nextSource, events, plainContents, plainAnswers, Bytes, CallsBytes, ReadsAs}
 
--- what each of the six calls promises: its answer, and its destination at exit
+-- what each of the six calls promises
 abbrev pub Called : Edit → List ℕ → List ℕ → EditAnswer → List ℕ → Type 0
-Called e src dst answer exit = (answer ≡ edited e src dst .answer) × (exit ≡ edited e src dst .destination)
+Called e src dst = Gives (edited e src dst)
 
 -- a list of calls from a carrier on, each on the one that the last accepted call wrote; the carrier left, and the answers
-pub data Ran : List ℕ → List Task → List ℕ → List EditAnswer → Type 0 where
+pub data Ran : List ℕ → List Call → List ℕ → List EditAnswer → Type 0 where
   none : {src : List ℕ} → Ran src [] src []
-  next : {src exit left : List ℕ} {t : Task} {ts : List Task} {answer : EditAnswer} {answers : List EditAnswer}
+  next : {src exit left : List ℕ} {t : Call} {ts : List Call} {answer : EditAnswer} {answers : List EditAnswer}
       → Called (t .edit) src (t .destination) answer exit
       → Ran (nextSource src answer exit) ts left answers
       → Ran src (t ∷ ts) left (answer ∷ answers)
 
 -- any two carriers that are each exactly one container, any two lists of calls with destinations of any content and length
 pub record EqualityOfCalls : Type 0 where
-  pub claim : (s₁ s₂ : List ℕ) (k₁ k₂ : Container) (ts₁ ts₂ : List Task) (left₁ left₂ : List ℕ) (answers₁ answers₂ : List EditAnswer)
-      → Bytes s₁ → Bytes s₂ → TaskBytes ts₁ → TaskBytes ts₂
+  pub claim : (s₁ s₂ : List ℕ) (k₁ k₂ : Container) (ts₁ ts₂ : List Call) (left₁ left₂ : List ℕ) (answers₁ answers₂ : List EditAnswer)
+      → Bytes s₁ → Bytes s₂ → CallsBytes ts₁ → CallsBytes ts₂
       → reading s₁ ≡ accepted (length s₁) k₁ → reading s₂ ≡ accepted (length s₂) k₂
       → Ran s₁ ts₁ left₁ answers₁ → Ran s₂ ts₂ left₂ answers₂
-      → ((left₁ ≡ left₂) ↔ (plainContents (contentsOf k₁) ts₁ ≡ plainContents (contentsOf k₂) ts₂))
-      × (answers₁ ≡ plainAnswers (contentsOf k₁) ts₁)
-      × ReadsAs left₁ (plainContents (contentsOf k₁) ts₁)
-      × (answers₂ ≡ plainAnswers (contentsOf k₂) ts₂)
-      × ReadsAs left₂ (plainContents (contentsOf k₂) ts₂)
+      → ((left₁ ≡ left₂) ↔ (plainContents (contentsOf k₁) (events ts₁) ≡ plainContents (contentsOf k₂) (events ts₂)))
+      × (answers₁ ≡ plainAnswers (contentsOf k₁) (events ts₁))
+      × ReadsAs left₁ (plainContents (contentsOf k₁) (events ts₁))
+      × (answers₂ ≡ plainAnswers (contentsOf k₂) (events ts₂))
+      × ReadsAs left₂ (plainContents (contentsOf k₂) (events ts₂))

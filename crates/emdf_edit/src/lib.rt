@@ -2,7 +2,7 @@
 ghost use mathlib.Core.Path.{_≡_};
 ghost use Prim.Native.Nat.{_+_, _*_, _^_, _<_, _≤_};
 ghost use lib.ListN.{length};
-ghost use Rattle.emdf_format.specs.Edits.{bodyEdit, settingsEdit, dropEdit, insertEdit, keyEdit, protectionEdit, edited};
+ghost use Rattle.emdf_format.specs.Edits.{bodyEdit, settingsEdit, dropEdit, insertEdit, keyEdit, protectionEdit};
 ghost use Rattle.emdf_plan.specs.Plan.{editOf, newBits, spliced};
 ghost use Rattle.emdf_field_writer.specs.Fields.{Room, Put};
 ghost use Rattle.emdf_edit.specs.Sequences.{Called};
@@ -13,12 +13,19 @@ use emdf_format::EmdfPayloadConfig;
 use emdf_plan::Cut;
 use emdf_plan::Plan;
 use emdf_plan::Request;
+use openjoc_bitio::BitOffset;
 use openjoc_bitio::ByteCount;
 
 // What a request brings.
-fn put_new(out: &mut [u8], at: usize, request: Request, octets: &[u8], secondary: &[u8]) -> usize
-    requires { ⌜ Room (now out) at (newBits (editOf request (now octets) (now secondary))) ⌝ }
-    ensures { λ r. ⌜ Put (now (out .entry)) at (newBits (editOf request (now (octets .entry)) (now (secondary .entry)))) (now (out .exit)) r ⌝ }
+fn put_new(
+    out: &mut [u8],
+    at: BitOffset,
+    request: Request,
+    octets: &[u8],
+    secondary: &[u8],
+) -> BitOffset
+    requires { ⌜ Room (now out) (at .0) (newBits request (now octets) (now secondary)) ⌝ }
+    ensures { λ r. ⌜ Put (now (out .entry)) (at .0) (newBits request (now (octets .entry)) (now (secondary .entry))) (now (out .exit)) (r .0) ⌝ }
 {
     match request {
         Request::Body(_) => emdf_field_writer::put_body(out, at, octets),
@@ -45,23 +52,23 @@ fn put_splice(
     request: Request,
     octets: &[u8],
     secondary: &[u8],
-) -> usize
-    requires { ⌜ Within (now source) cut (newBits (editOf request (now octets) (now secondary))) × (length (now out) ≡ 4 + cut .size .0) ⌝ }
-    ensures { λ r. ⌜ Put (now (out .entry)) 0 (spliced (now (source .entry)) cut (newBits (editOf request (now (octets .entry)) (now (secondary .entry))))) (now (out .exit)) r ⌝ }
+) -> BitOffset
+    requires { ⌜ Within (now source) cut (newBits request (now octets) (now secondary)) × (length (now out) ≡ 4 + cut .size .0) ⌝ }
+    ensures { λ r. ⌜ Put (now (out .entry)) 0 (spliced (now (source .entry)) cut (newBits request (now (octets .entry)) (now (secondary .entry)))) (now (out .exit)) (r .0) ⌝ }
 {
     let from = cut.from;
     let to = cut.to;
     let end = cut.end;
     let size = cut.size;
-    let sync = emdf_field_writer::put_sync(out, size.0);
-    let before = emdf_field_writer::put_run(out, sync, source, 32, from.0 - 32);
+    let sync = emdf_field_writer::put_sync(out, size);
+    let before = emdf_field_writer::put_run(out, sync, source, BitOffset(32), from.0 - 32);
     let new = put_new(out, before, request, octets, secondary);
-    let after = emdf_field_writer::put_run(out, new, source, to.0, end.0 - to.0);
-    emdf_field_writer::put_field(out, after, (4 + size.0) * 8 - after, 0)
+    let after = emdf_field_writer::put_run(out, new, source, to, end.0 - to.0);
+    emdf_field_writer::put_field(out, after, (4 + size.0) * 8 - after.0, 0)
 }
 
-// Each of the six edits: all questions before the first byte is stored.
-fn apply(
+// Any edit: all questions before the first byte is stored.
+pub fn apply(
     source: &[u8],
     request: Request,
     octets: &[u8],
@@ -91,7 +98,7 @@ fn apply(
 
 // Another body for the payload at place.
 pub fn replace_body(source: &[u8], place: usize, body: &[u8], destination: &mut [u8]) -> EditAnswer
-    ensures { λ r. ⌜ (r ≡ edited (bodyEdit place (now (body .entry))) (now (source .entry)) (now (destination .entry)) .answer) × (now (destination .exit) ≡ edited (bodyEdit place (now (body .entry))) (now (source .entry)) (now (destination .entry)) .destination) ⌝ }
+    ensures { λ r. ⌜ Called (bodyEdit place (now (body .entry))) (now (source .entry)) (now (destination .entry)) r (now (destination .exit)) ⌝ }
 {
     apply(source, Request::Body(place), body, &body[..0], destination)
 }
@@ -103,7 +110,7 @@ pub fn replace_settings(
     config: EmdfPayloadConfig,
     destination: &mut [u8],
 ) -> EditAnswer
-    ensures { λ r. ⌜ (r ≡ edited (settingsEdit place config) (now (source .entry)) (now (destination .entry)) .answer) × (now (destination .exit) ≡ edited (settingsEdit place config) (now (source .entry)) (now (destination .entry)) .destination) ⌝ }
+    ensures { λ r. ⌜ Called (settingsEdit place config) (now (source .entry)) (now (destination .entry)) r (now (destination .exit)) ⌝ }
 {
     let none = &source[..0];
     apply(
@@ -117,7 +124,7 @@ pub fn replace_settings(
 
 // The carrier without the payload at place.
 pub fn drop_payload(source: &[u8], place: usize, destination: &mut [u8]) -> EditAnswer
-    ensures { λ r. ⌜ (r ≡ edited (dropEdit place) (now (source .entry)) (now (destination .entry)) .answer) × (now (destination .exit) ≡ edited (dropEdit place) (now (source .entry)) (now (destination .entry)) .destination) ⌝ }
+    ensures { λ r. ⌜ Called (dropEdit place) (now (source .entry)) (now (destination .entry)) r (now (destination .exit)) ⌝ }
 {
     let none = &source[..0];
     apply(source, Request::Drop(place), none, none, destination)
@@ -132,7 +139,7 @@ pub fn insert_payload(
     body: &[u8],
     destination: &mut [u8],
 ) -> EditAnswer
-    ensures { λ r. ⌜ (r ≡ edited (insertEdit place id config (now (body .entry))) (now (source .entry)) (now (destination .entry)) .answer) × (now (destination .exit) ≡ edited (insertEdit place id config (now (body .entry))) (now (source .entry)) (now (destination .entry)) .destination) ⌝ }
+    ensures { λ r. ⌜ Called (insertEdit place id config (now (body .entry))) (now (source .entry)) (now (destination .entry)) r (now (destination .exit)) ⌝ }
 {
     apply(
         source,
@@ -145,7 +152,7 @@ pub fn insert_payload(
 
 // Another key id.
 pub fn replace_key(source: &[u8], key: u64, destination: &mut [u8]) -> EditAnswer
-    ensures { λ r. ⌜ (r ≡ edited (keyEdit key) (now (source .entry)) (now (destination .entry)) .answer) × (now (destination .exit) ≡ edited (keyEdit key) (now (source .entry)) (now (destination .entry)) .destination) ⌝ }
+    ensures { λ r. ⌜ Called (keyEdit key) (now (source .entry)) (now (destination .entry)) r (now (destination .exit)) ⌝ }
 {
     let none = &source[..0];
     apply(source, Request::Key(key), none, none, destination)
@@ -158,7 +165,7 @@ pub fn replace_protection(
     secondary: &[u8],
     destination: &mut [u8],
 ) -> EditAnswer
-    ensures { λ r. ⌜ (r ≡ edited (protectionEdit (now (primary .entry)) (now (secondary .entry))) (now (source .entry)) (now (destination .entry)) .answer) × (now (destination .exit) ≡ edited (protectionEdit (now (primary .entry)) (now (secondary .entry))) (now (source .entry)) (now (destination .entry)) .destination) ⌝ }
+    ensures { λ r. ⌜ Called (protectionEdit (now (primary .entry)) (now (secondary .entry))) (now (source .entry)) (now (destination .entry)) r (now (destination .exit)) ⌝ }
 {
     apply(source, Request::Protection, primary, secondary, destination)
 }

@@ -31,7 +31,7 @@ unfolding bitLength
 fits out end h l = simp (lt-ltb (length out) (2 ^ 61) l) (le-leb end (length out * 8) h)
 
 pub number-fits : (out : List ℕ) (at w v : ℕ) → w ≤ 64 → Room out at (numberBits w v) → numberPut out at w v ≡ sets (octetBits out) at (numberBits w v)
-number-fits out at w v h r = sym (number-in out at w v h (fits out (at + w) (omega (arith, length-number w v, r .0)) (r .1)))
+number-fits out at w v h r = sym (number-in out at w v h (fits out (at + w) (omega (arith, length-number w v, r .0)) (r .1)) .1)
 
 -- room in a buffer of n bytes
 abbrev RoomOf : ℕ → ℕ → List ℕ → Type 0
@@ -127,7 +127,7 @@ module _ (w v p : ℕ) (e : p ≡ 2 ^ w) where
 
 pub run-fits : (out : List ℕ) (at : ℕ) (s : List ℕ) (from n : ℕ) → Room out at (bitRun s from n) → from + n ≤ length s * 8 → length s < 2 ^ 61
     → bitsCopied out at s from n ≡ sets (octetBits out) at (bitRun s from n)
-run-fits out at s from n r h l = sym (run-in out at s from n (fits s (from + n) h l) (fits out (at + n) (omega (arith, length-run s from n h, r .0)) (r .1)))
+run-fits out at s from n r h l = sym (run-in out at s from n (fits s (from + n) h l) (fits out (at + n) (omega (arith, length-run s from n h, r .0)) (r .1)) .1)
 
 run-all : (s : List ℕ) → bitRun s 0 (length s * 8) ≡ octetBits s
 unfolding bitRun

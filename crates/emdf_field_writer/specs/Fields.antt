@@ -5,7 +5,7 @@ use Prim.Native.Nat.{ℕ, _+_, _*_, _/_, _%_, _^_, _<_, _≤_}
 use lib.ListN.{length}
 use lib.Seq.{sets}
 use Rattle.openjoc_bitio.specs.Bits.{numberBits}
-use Rattle.emdf_format.specs.Syntax.{_⨟_, groupsBefore, variableField, extendedField, octetBits, flaggedField, presentField}
+use Rattle.emdf_format.specs.Syntax.{syncword, _⨟_, groupsBefore, variableField, extendedField, octetBits, flaggedField, presentField}
 use Rattle.emdf_format.specs.Contents.{sampleOffsetBits}
 use Rattle.emdf_format.specs.declared.EmdfPayloadConfig.{EmdfPayloadConfig}
 
@@ -46,7 +46,7 @@ controlsBits t =
 
 -- the sync word, and the length that the container declares
 unfoldable pub syncBits : ℕ → List ℕ
-syncBits n = numberBits 16 0x5838 ⨟ numberBits 16 n
+syncBits n = numberBits 16 syncword ⨟ numberBits 16 n
 
 -- the sync word, the declared length, version 0, key_id
 unfoldable pub headerBits : ℕ → ℕ → List ℕ

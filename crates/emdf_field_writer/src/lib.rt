@@ -9,29 +9,31 @@ ghost use Rattle.emdf_writer.specs.Writing.{bitRun};
 ghost use Rattle.emdf_field_writer.specs.Fields.{Room, Put, group, variableGroups, timingBits, controlsBits, syncBits, headerBits};
 use emdf_format::EmdfPayloadConfig;
 use emdf_format::Optional;
+use openjoc_bitio::BitOffset;
+use openjoc_bitio::ByteCount;
 
 // The width low bits of v; the position past them, as with the others.
-pub fn put_field(out: &mut [u8], at: usize, width: usize, v: u64) -> usize
-    requires { ⌜ (width ≤ 64) × Room (now out) at (numberBits width v) ⌝ }
-    ensures { λ r. ⌜ Put (now (out .entry)) at (numberBits width v) (now (out .exit)) r ⌝ }
+pub fn put_field(out: &mut [u8], at: BitOffset, width: usize, v: u64) -> BitOffset
+    requires { ⌜ (width ≤ 64) × Room (now out) (at .0) (numberBits width v) ⌝ }
+    ensures { λ r. ⌜ Put (now (out .entry)) (at .0) (numberBits width v) (now (out .exit)) (r .0) ⌝ }
 {
-    emdf_writer::put_number(out, at, width, v);
-    at + width
+    emdf_writer::put_number(out, at.0, width, v);
+    BitOffset(at.0 + width)
 }
 
 // A group: the width low bits of v and the more bit.
-fn put_group(out: &mut [u8], at: usize, width: usize, v: u64, more: u64) -> usize
-    requires { ⌜ (width < 64) × (more < 2) × Room (now out) at (group width v more) ⌝ }
-    ensures { λ r. ⌜ Put (now (out .entry)) at (group width v more) (now (out .exit)) r ⌝ }
+fn put_group(out: &mut [u8], at: BitOffset, width: usize, v: u64, more: u64) -> BitOffset
+    requires { ⌜ (width < 64) × (more < 2) × Room (now out) (at .0) (group width v more) ⌝ }
+    ensures { λ r. ⌜ Put (now (out .entry)) (at .0) (group width v more) (now (out .exit)) (r .0) ⌝ }
 {
     let low = v % openjoc_bitio::pow2(width);
     put_field(out, at, width + 1, low * 2 + more)
 }
 
 // The groups of v, the last with this more bit: those of the shorter value come first.
-fn put_variable(out: &mut [u8], at: usize, width: usize, v: u64, more: u64) -> usize
-    requires { ⌜ (0 < width) × (width < 64) × (more < 2) × Room (now out) at (variableGroups width v more) ⌝ }
-    ensures { λ r. ⌜ Put (now (out .entry)) at (variableGroups width v more) (now (out .exit)) r ⌝ }
+fn put_variable(out: &mut [u8], at: BitOffset, width: usize, v: u64, more: u64) -> BitOffset
+    requires { ⌜ (0 < width) × (width < 64) × (more < 2) × Room (now out) (at .0) (variableGroups width v more) ⌝ }
+    ensures { λ r. ⌜ Put (now (out .entry)) (at .0) (variableGroups width v more) (now (out .exit)) (r .0) ⌝ }
 {
     let above = v >> width;
     if above == 0 {
@@ -42,9 +44,9 @@ fn put_variable(out: &mut [u8], at: usize, width: usize, v: u64, more: u64) -> u
 }
 
 // A field with an escape.
-pub fn put_extended(out: &mut [u8], at: usize, width: usize, v: u64) -> usize
-    requires { ⌜ (0 < width) × (width < 64) × Room (now out) at (extendedField width v) ⌝ }
-    ensures { λ r. ⌜ Put (now (out .entry)) at (extendedField width v) (now (out .exit)) r ⌝ }
+pub fn put_extended(out: &mut [u8], at: BitOffset, width: usize, v: u64) -> BitOffset
+    requires { ⌜ (0 < width) × (width < 64) × Room (now out) (at .0) (extendedField width v) ⌝ }
+    ensures { λ r. ⌜ Put (now (out .entry)) (at .0) (extendedField width v) (now (out .exit)) (r .0) ⌝ }
 {
     let escape = openjoc_bitio::pow2(width) - 1;
     if v < escape {
@@ -55,19 +57,19 @@ pub fn put_extended(out: &mut [u8], at: usize, width: usize, v: u64) -> usize
 }
 
 // All octets of s.
-fn put_octets(out: &mut [u8], at: usize, s: &[u8]) -> usize
-    requires { ⌜ Room (now out) at (octetBits (now s)) ⌝ }
-    ensures { λ r. ⌜ Put (now (out .entry)) at (octetBits (now (s .entry))) (now (out .exit)) r ⌝ }
+fn put_octets(out: &mut [u8], at: BitOffset, s: &[u8]) -> BitOffset
+    requires { ⌜ Room (now out) (at .0) (octetBits (now s)) ⌝ }
+    ensures { λ r. ⌜ Put (now (out .entry)) (at .0) (octetBits (now (s .entry))) (now (out .exit)) (r .0) ⌝ }
 {
     let n = s.len() * 8;
-    emdf_writer::copy_bits(out, at, s, 0, n);
-    at + n
+    emdf_writer::copy_bits(out, at.0, s, 0, n);
+    BitOffset(at.0 + n)
 }
 
 // The sample offset: a flag and, where it is there, 11 bits and a reserved one.
-fn put_sample_offset(out: &mut [u8], at: usize, o: Optional) -> usize
-    requires { ⌜ Room (now out) at (flaggedField sampleOffsetBits o) ⌝ }
-    ensures { λ r. ⌜ Put (now (out .entry)) at (flaggedField sampleOffsetBits o) (now (out .exit)) r ⌝ }
+fn put_sample_offset(out: &mut [u8], at: BitOffset, o: Optional) -> BitOffset
+    requires { ⌜ Room (now out) (at .0) (flaggedField sampleOffsetBits o) ⌝ }
+    ensures { λ r. ⌜ Put (now (out .entry)) (at .0) (flaggedField sampleOffsetBits o) (now (out .exit)) (r .0) ⌝ }
 {
     match o {
         Optional::Absent => put_field(out, at, 1, 0),
@@ -80,9 +82,9 @@ fn put_sample_offset(out: &mut [u8], at: usize, o: Optional) -> usize
 }
 
 // A flag and, where the setting is there, its variable field.
-fn put_flagged(out: &mut [u8], at: usize, width: usize, o: Optional) -> usize
-    requires { ⌜ (0 < width) × (width < 64) × Room (now out) at (flaggedField (variableField width) o) ⌝ }
-    ensures { λ r. ⌜ Put (now (out .entry)) at (flaggedField (variableField width) o) (now (out .exit)) r ⌝ }
+fn put_flagged(out: &mut [u8], at: BitOffset, width: usize, o: Optional) -> BitOffset
+    requires { ⌜ (0 < width) × (width < 64) × Room (now out) (at .0) (flaggedField (variableField width) o) ⌝ }
+    ensures { λ r. ⌜ Put (now (out .entry)) (at .0) (flaggedField (variableField width) o) (now (out .exit)) (r .0) ⌝ }
 {
     match o {
         Optional::Absent => put_field(out, at, 1, 0),
@@ -94,9 +96,9 @@ fn put_flagged(out: &mut [u8], at: usize, width: usize, o: Optional) -> usize
 }
 
 // The codec flag and, where it is set, the reserved octet.
-fn put_codec_data(out: &mut [u8], at: usize, flag: u64) -> usize
-    requires { ⌜ Room (now out) at (codecDataBits flag) ⌝ }
-    ensures { λ r. ⌜ Put (now (out .entry)) at (codecDataBits flag) (now (out .exit)) r ⌝ }
+fn put_codec_data(out: &mut [u8], at: BitOffset, flag: u64) -> BitOffset
+    requires { ⌜ Room (now out) (at .0) (codecDataBits flag) ⌝ }
+    ensures { λ r. ⌜ Put (now (out .entry)) (at .0) (codecDataBits flag) (now (out .exit)) (r .0) ⌝ }
 {
     if flag == 0 {
         return put_field(out, at, 1, 0);
@@ -106,9 +108,9 @@ fn put_codec_data(out: &mut [u8], at: usize, flag: u64) -> usize
 }
 
 // The width low bits of a setting, where it is there.
-fn put_present(out: &mut [u8], at: usize, width: usize, o: Optional) -> usize
-    requires { ⌜ (width ≤ 64) × Room (now out) at (presentField (numberBits width) o) ⌝ }
-    ensures { λ r. ⌜ Put (now (out .entry)) at (presentField (numberBits width) o) (now (out .exit)) r ⌝ }
+fn put_present(out: &mut [u8], at: BitOffset, width: usize, o: Optional) -> BitOffset
+    requires { ⌜ (width ≤ 64) × Room (now out) (at .0) (presentField (numberBits width) o) ⌝ }
+    ensures { λ r. ⌜ Put (now (out .entry)) (at .0) (presentField (numberBits width) o) (now (out .exit)) (r .0) ⌝ }
 {
     match o {
         Optional::Absent => at,
@@ -117,9 +119,9 @@ fn put_present(out: &mut [u8], at: usize, width: usize, o: Optional) -> usize
 }
 
 // The settings before the codec flag.
-fn put_timing(out: &mut [u8], at: usize, t: EmdfPayloadConfig) -> usize
-    requires { ⌜ Room (now out) at (timingBits t) ⌝ }
-    ensures { λ r. ⌜ Put (now (out .entry)) at (timingBits t) (now (out .exit)) r ⌝ }
+fn put_timing(out: &mut [u8], at: BitOffset, t: EmdfPayloadConfig) -> BitOffset
+    requires { ⌜ Room (now out) (at .0) (timingBits t) ⌝ }
+    ensures { λ r. ⌜ Put (now (out .entry)) (at .0) (timingBits t) (now (out .exit)) (r .0) ⌝ }
 {
     let offset = t.sample_offset;
     let duration = t.duration;
@@ -130,9 +132,9 @@ fn put_timing(out: &mut [u8], at: usize, t: EmdfPayloadConfig) -> usize
 }
 
 // The settings after the codec flag.
-fn put_controls(out: &mut [u8], at: usize, t: EmdfPayloadConfig) -> usize
-    requires { ⌜ Room (now out) at (controlsBits t) ⌝ }
-    ensures { λ r. ⌜ Put (now (out .entry)) at (controlsBits t) (now (out .exit)) r ⌝ }
+fn put_controls(out: &mut [u8], at: BitOffset, t: EmdfPayloadConfig) -> BitOffset
+    requires { ⌜ Room (now out) (at .0) (controlsBits t) ⌝ }
+    ensures { λ r. ⌜ Put (now (out .entry)) (at .0) (controlsBits t) (now (out .exit)) (r .0) ⌝ }
 {
     let aligned = t.payload_frame_aligned;
     let create = t.create_duplicate;
@@ -148,9 +150,9 @@ fn put_controls(out: &mut [u8], at: usize, t: EmdfPayloadConfig) -> usize
 }
 
 // The ten settings.
-pub fn put_config(out: &mut [u8], at: usize, t: EmdfPayloadConfig) -> usize
-    requires { ⌜ Room (now out) at (configBits t) ⌝ }
-    ensures { λ r. ⌜ Put (now (out .entry)) at (configBits t) (now (out .exit)) r ⌝ }
+pub fn put_config(out: &mut [u8], at: BitOffset, t: EmdfPayloadConfig) -> BitOffset
+    requires { ⌜ Room (now out) (at .0) (configBits t) ⌝ }
+    ensures { λ r. ⌜ Put (now (out .entry)) (at .0) (configBits t) (now (out .exit)) (r .0) ⌝ }
 {
     let timing = put_timing(out, at, t);
     let codec = put_codec_data(out, timing, t.codec_data_present);
@@ -158,9 +160,9 @@ pub fn put_config(out: &mut [u8], at: usize, t: EmdfPayloadConfig) -> usize
 }
 
 // The size of a body, and its octets.
-pub fn put_body(out: &mut [u8], at: usize, body: &[u8]) -> usize
-    requires { ⌜ Room (now out) at (variableField 8 (length (now body)) ⨟ octetBits (now body)) ⌝ }
-    ensures { λ r. ⌜ Put (now (out .entry)) at (variableField 8 (length (now (body .entry))) ⨟ octetBits (now (body .entry))) (now (out .exit)) r ⌝ }
+pub fn put_body(out: &mut [u8], at: BitOffset, body: &[u8]) -> BitOffset
+    requires { ⌜ Room (now out) (at .0) (variableField 8 (length (now body)) ⨟ octetBits (now body)) ⌝ }
+    ensures { λ r. ⌜ Put (now (out .entry)) (at .0) (variableField 8 (length (now (body .entry))) ⨟ octetBits (now (body .entry))) (now (out .exit)) (r .0) ⌝ }
 {
     let size = put_variable(out, at, 8, body.len() as u64, 0);
     put_octets(out, size, body)
@@ -169,13 +171,13 @@ pub fn put_body(out: &mut [u8], at: usize, body: &[u8]) -> usize
 // A payload.
 pub fn put_payload(
     out: &mut [u8],
-    at: usize,
+    at: BitOffset,
     id: u64,
     config: EmdfPayloadConfig,
     body: &[u8],
-) -> usize
-    requires { ⌜ Room (now out) at (payloadBits (record { id = id; config = config; body = now body })) ⌝ }
-    ensures { λ r. ⌜ Put (now (out .entry)) at (payloadBits (record { id = id; config = config; body = now (body .entry) })) (now (out .exit)) r ⌝ }
+) -> BitOffset
+    requires { ⌜ Room (now out) (at .0) (payloadBits (record { id = id; config = config; body = now body })) ⌝ }
+    ensures { λ r. ⌜ Put (now (out .entry)) (at .0) (payloadBits (record { id = id; config = config; body = now (body .entry) })) (now (out .exit)) (r .0) ⌝ }
 {
     let settings = put_extended(out, at, 5, id);
     let size = put_config(out, settings, config);
@@ -183,9 +185,9 @@ pub fn put_payload(
 }
 
 // The codes of two protections and their octets.
-pub fn put_protection(out: &mut [u8], at: usize, primary: &[u8], secondary: &[u8]) -> usize
-    requires { ⌜ Room (now out) at (protectionBits (now primary) (now secondary)) ⌝ }
-    ensures { λ r. ⌜ Put (now (out .entry)) at (protectionBits (now (primary .entry)) (now (secondary .entry))) (now (out .exit)) r ⌝ }
+pub fn put_protection(out: &mut [u8], at: BitOffset, primary: &[u8], secondary: &[u8]) -> BitOffset
+    requires { ⌜ Room (now out) (at .0) (protectionBits (now primary) (now secondary)) ⌝ }
+    ensures { λ r. ⌜ Put (now (out .entry)) (at .0) (protectionBits (now (primary .entry)) (now (secondary .entry))) (now (out .exit)) (r .0) ⌝ }
 {
     let first = put_field(out, at, 2, emdf_measure::protection_code(primary.len()));
     let codes = put_field(
@@ -199,29 +201,29 @@ pub fn put_protection(out: &mut [u8], at: usize, primary: &[u8], secondary: &[u8
 }
 
 // n bits of s, from bit from on.
-pub fn put_run(out: &mut [u8], at: usize, s: &[u8], from: usize, n: usize) -> usize
-    requires { ⌜ Room (now out) at (bitRun (now s) from n) × (from + n ≤ length (now s) * 8) × (length (now s) < 2 ^ 61) ⌝ }
-    ensures { λ r. ⌜ Put (now (out .entry)) at (bitRun (now (s .entry)) from n) (now (out .exit)) r ⌝ }
+pub fn put_run(out: &mut [u8], at: BitOffset, s: &[u8], from: BitOffset, n: usize) -> BitOffset
+    requires { ⌜ Room (now out) (at .0) (bitRun (now s) (from .0) n) × (from .0 + n ≤ length (now s) * 8) × (length (now s) < 2 ^ 61) ⌝ }
+    ensures { λ r. ⌜ Put (now (out .entry)) (at .0) (bitRun (now (s .entry)) (from .0) n) (now (out .exit)) (r .0) ⌝ }
 {
-    emdf_writer::copy_bits(out, at, s, from, n);
-    at + n
+    emdf_writer::copy_bits(out, at.0, s, from.0, n);
+    BitOffset(at.0 + n)
 }
 
 // The sync word, and the length that the container declares.
-pub fn put_sync(out: &mut [u8], size: usize) -> usize
-    requires { ⌜ Room (now out) 0 (syncBits size) ⌝ }
-    ensures { λ r. ⌜ Put (now (out .entry)) 0 (syncBits size) (now (out .exit)) r ⌝ }
+pub fn put_sync(out: &mut [u8], size: ByteCount) -> BitOffset
+    requires { ⌜ Room (now out) 0 (syncBits (size .0)) ⌝ }
+    ensures { λ r. ⌜ Put (now (out .entry)) 0 (syncBits (size .0)) (now (out .exit)) (r .0) ⌝ }
 {
-    let word = put_field(out, 0, 16, emdf_format::SYNCWORD as u64);
-    put_field(out, word, 16, size as u64)
+    let word = put_field(out, BitOffset(0), 16, emdf_format::SYNCWORD as u64);
+    put_field(out, word, 16, size.0 as u64)
 }
 
 // What stands before the payloads.
-pub fn put_header(out: &mut [u8], declared: usize, key: u64) -> usize
-    requires { ⌜ Room (now out) 0 (headerBits declared key) ⌝ }
-    ensures { λ r. ⌜ Put (now (out .entry)) 0 (headerBits declared key) (now (out .exit)) r ⌝ }
+pub fn put_header(out: &mut [u8], size: ByteCount, key: u64) -> BitOffset
+    requires { ⌜ Room (now out) 0 (headerBits (size .0) key) ⌝ }
+    ensures { λ r. ⌜ Put (now (out .entry)) 0 (headerBits (size .0) key) (now (out .exit)) (r .0) ⌝ }
 {
-    let sync = put_sync(out, declared);
+    let sync = put_sync(out, size);
     let version = put_field(out, sync, 2, 0);
     put_extended(out, version, 3, key)
 }

@@ -9,7 +9,7 @@ use lib.Dec.{T, leb, ltb, eqb, leb→le, le→leb, ltb→lt, lt→ltb, eqb→eq,
 use Rattle.openjoc_bitio.specs.Bits.{numberBits}
 use Rattle.emdf_format.specs.declared.EmdfPayloadConfig.{EmdfPayloadConfig}
 use Rattle.emdf_format.specs.Syntax.{_⨟_, variableField, capacity, flaggedField, presentField}
-use Rattle.emdf_format.specs.Contents.{_&_, whenPresent, upTo, hasAligned, isOne, hasPriority, ruled, writableConfig, codecDataBits, sampleOffsetBits, configBits}
+use Rattle.emdf_format.specs.Contents.{_&_, whenPresent, upTo, hasAligned, isOne, hasPriority, presentAsRuled, writableConfig, codecDataBits, sampleOffsetBits, configBits}
 use Rattle.emdf_format.specs.Reader.{got, bits, variableBits, present, flagged}
 use Rattle.emdf_format.specs.Reading.{reserved, sampleOffset, codecData, configControls, payloadConfig}
 use Rattle.emdf_format.proofs.Standing.{Stands, nil, cons, join, part, Codec, bits-law, bind-inv, bind-go, choose-inv, choose-this, choose-that, step, chosen, taken, ask-end, ask-fine, give-inv, give-go, bit-zero, bit-one, neqb→ne, both, fits, and}
@@ -78,8 +78,8 @@ codec-law = record { sound = sound; exact = λ {a = c} t h. exact c t h }
 
 -- ---- the ten settings
 
-ruled-law : (t : Bool) (w n : ℕ) → w ≤ 64 → suc n ≡ 2 ^ w → Codec (present t (bits w)) (presentField (numberBits w)) (ruled t n)
-unfolding ruled
+ruled-law : (t : Bool) (w n : ℕ) → w ≤ 64 → suc n ≡ 2 ^ w → Codec (present t (bits w)) (presentField (numberBits w)) (presentAsRuled t n)
+unfolding presentAsRuled
 ruled-law t w n ok h = present-law (bits-upTo w n ok h) t
 
 duration-law : Codec (flagged (variableBits 11 2)) (flaggedField (variableField 11)) (whenPresent (upTo 4_196_351))

@@ -9,12 +9,12 @@ use lib.ListN.{length, take, drop}
 use lib.Seq.{take-at, take-length}
 use lib.Dec.{T, leb, ltb, eqb, leb→le, le→leb, lt→ltb, eqb-refl}
 use Rattle.openjoc_bitio.specs.Choice.{if_then_else_}
-use Rattle.emdf_format.specs.declared.EditError.the-variants.{NoSuchPlace, NotWritable, TooLong, DestinationTooShort}
-use Rattle.emdf_format.specs.declared.EmdfPayloadConfig.{EmdfPayloadConfig}
+use Rattle.emdf_format.specs.declared.EditError.{EditError}
+use Rattle.emdf_format.specs.Syntax.{mostDeclared}
 use Rattle.emdf_format.specs.Contents.{Payload, Contents, writable, declared, carrier, allBytes, bodiesAreBytes, contentsAreBytes}
 use Rattle.emdf_format.specs.Reading.{Container, accepted, reading, contentsOf}
 use Rattle.emdf_format.specs.Calls.{inTable}
-use Rattle.emdf_format.specs.Edits.{Edit, bodyEdit, settingsEdit, dropEdit, insertEdit, keyEdit, protectionEdit, withBody, withConfig, withPayloads, change, placeExists, Stepped, changed, unchanged, carrierLength, inRoom, weighed, step, stepAnswer, stepContents, written, stepFrom, edited, Task, nextSource, leaves, answers, plainContents, plainAnswers, Bytes, EditBytes, TaskBytes, ReadsAs, EqualityOfCarriers}
+use Rattle.emdf_format.specs.Edits.{Edit, bodyEdit, settingsEdit, dropEdit, insertEdit, keyEdit, protectionEdit, withAt, withBody, withConfig, withPayloads, change, placeExists, Stepped, changed, unchanged, carrierLength, inRoom, stepTo, step, stepAnswer, stepContents, written, stepFrom, edited, Call, nextSource, done, leaves, answers, eventOf, events, outcome, plainContents, plainAnswers, Bytes, EditBytes, CallsBytes, ReadsAs, EqualityOfCarriers}
 use Rattle.emdf_format.proofs.Standing.{T-of, if-yes, both, and}
 use Rattle.emdf_format.proofs.Payloads.{allFoundFrom}
 use Rattle.emdf_format.proofs.Container.{containerFrom}
@@ -54,7 +54,7 @@ carries-same {s} {s′} {c} {c′} k k′ = (
   λ e. rw (k .is, k′ .is, e),
 )
 
-reads-as : {s : List ℕ} {c : Contents} → Carries s c → ReadsAs s c
+pub reads-as : {s : List ℕ} {c : Contents} → Carries s c → ReadsAs s c
 unfolding inTable
 reads-as {s} {c} k =
     let r = carries-read k in
@@ -68,7 +68,7 @@ reads-as {s} {c} k =
 
 -- ---- an edit keeps bytes bytes
 
-all-bytes : (bs : List ℕ) → Bytes bs → T (allBytes bs)
+pub all-bytes : (bs : List ℕ) → Bytes bs → T (allBytes bs)
 unfolding allBytes
 all-bytes [] h = tt
 all-bytes (b ∷ bs) h = and _ _ (lt→ltb b 256 (h 0)) (all-bytes bs (λ i. h (suc i)))
@@ -90,22 +90,17 @@ bytes-drop zero xs h = h
 bytes-drop (suc n) [] h = tt
 bytes-drop (suc n) (x ∷ xs) h = bytes-drop n xs (both h .right)
 
-bytes-body : (k : ℕ) (bs : List ℕ) (xs : List Payload) → T (allBytes bs) → T (bodiesAreBytes xs) → T (bodiesAreBytes (withBody k bs xs))
-unfolding bodiesAreBytes withBody
-bytes-body k bs [] f h = tt
-bytes-body zero bs (x ∷ xs) f h = and _ _ f (both h .right)
-bytes-body (suc k) bs (x ∷ xs) f h = and _ _ (both h .left) (bytes-body k bs xs f (both h .right))
-
-bytes-config : (k : ℕ) (t : EmdfPayloadConfig) (xs : List Payload) → T (bodiesAreBytes xs) → T (bodiesAreBytes (withConfig k t xs))
-unfolding bodiesAreBytes withConfig
-bytes-config k t [] h = tt
-bytes-config zero t (x ∷ xs) h = h
-bytes-config (suc k) t (x ∷ xs) h = and _ _ (both h .left) (bytes-config k t xs (both h .right))
+bytes-at : (k : ℕ) (f : Payload → Payload) (xs : List Payload) → ((x : Payload) → T (allBytes (x .body)) → T (allBytes (f x .body)))
+    → T (bodiesAreBytes xs) → T (bodiesAreBytes (withAt k f xs))
+unfolding bodiesAreBytes withAt
+bytes-at k f [] g h = tt
+bytes-at zero f (x ∷ xs) g h = and _ _ (g x (both h .left)) (both h .right)
+bytes-at (suc k) f (x ∷ xs) g h = and _ _ (both h .left) (bytes-at k f xs g (both h .right))
 
 change-bytes : (e : Edit) (c : Contents) → EditBytes e → T (contentsAreBytes c) → T (contentsAreBytes (change e c))
 unfolding EditBytes contentsAreBytes change withPayloads bodiesAreBytes
-change-bytes (bodyEdit k bs) c h f = and _ _ (bytes-body k bs (c .payloads) (all-bytes bs h) (both f .left)) (both f .right)
-change-bytes (settingsEdit k t) c h f = and _ _ (bytes-config k t (c .payloads) (both f .left)) (both f .right)
+change-bytes (bodyEdit k bs) c h f = and _ _ (bytes-at k (withBody bs) (c .payloads) (λ x i. all-bytes bs h) (both f .left)) (both f .right)
+change-bytes (settingsEdit k t) c h f = and _ _ (bytes-at k (withConfig t) (c .payloads) (λ x i. i) (both f .left)) (both f .right)
 change-bytes (dropEdit k) c h f =
     let xs = c .payloads in
     and _ _ (bytes-append (take k xs) (drop (suc k) xs) (bytes-take k xs (both f .left)) (bytes-drop (suc k) xs (both f .left))) (both f .right)
@@ -119,29 +114,34 @@ change-bytes (protectionEdit a b) c h f = and _ _ (both f .left) (and _ _ (all-b
 
 -- ---- one edit
 
-pub record Weighed (c : Contents) : Type 0 where
-  pub fit : T (writable c)
-  pub small : declared c ≤ 65535
+-- a question that is answered yes, and what it leads to
+asked : (t : Bool) (o : Stepped) (why : EditError) {d : Contents} → (if t then o else unchanged why) ≡ changed d → (t ≡ true) × (o ≡ changed d)
+asked true o why h = (refl, h)
+asked false o why h = absurd (let z : _≡_ {A = ℕ} 0 1 = cc in omega arith)
 
-weigh-inv : (room : ℕ) (c c′ : Contents) → weighed room c ≡ changed c′ → (c ≡ c′) × Weighed c
-unfolding weighed inRoom
-weigh-inv room c c′ h = go (writable c) (leb (declared c) 65535) (leb (carrierLength c) room) refl refl h
-  where
-    go : (x y z : Bool) → writable c ≡ x → leb (declared c) 65535 ≡ y
-        → (if x then (if y then (if z then changed c else unchanged (DestinationTooShort (record { 0 = carrierLength c }))) else unchanged TooLong) else unchanged NotWritable) ≡ changed c′
-        → (c ≡ c′) × Weighed c
-    go true true true a b f = (cc, record { fit = T-of a; small = leb→le (declared c) 65535 (T-of b) })
-    go true true false a b f = absurd (let z : _≡_ {A = ℕ} 0 1 = cc in omega arith)
-    go true false z a b f = absurd (let z : _≡_ {A = ℕ} 0 1 = cc in omega arith)
-    go false y z a b f = absurd (let z : _≡_ {A = ℕ} 0 1 = cc in omega arith)
+-- what a step that changes c to d says of d
+pub record Changes (e : Edit) (room : ℕ) (c d : Contents) : Type 0 where
+  pub is : change e c ≡ d
+  pub place : placeExists e (length (c .payloads)) ≡ true
+  pub fit : T (writable d)
+  pub small : declared d ≤ mostDeclared
+  pub fits : carrierLength d ≤ room
 
-step-inv : (e : Edit) (room : ℕ) (c c′ : Contents) → step e room c ≡ changed c′ → (change e c ≡ c′) × Weighed (change e c)
-unfolding step
-step-inv e room c c′ h = go (placeExists e (length (c .payloads))) h
-  where
-    go : (x : Bool) → (if x then weighed room (change e c) else unchanged NoSuchPlace) ≡ changed c′ → (change e c ≡ c′) × Weighed (change e c)
-    go true f = weigh-inv room (change e c) c′ f
-    go false f = absurd (let z : _≡_ {A = ℕ} 0 1 = cc in omega arith)
+pub changes : (e : Edit) (room : ℕ) (c d : Contents) → step e room c ≡ changed d → Changes e room c d
+unfolding step stepTo inRoom
+changes e room c d h =
+    let (place, h₁) = asked (placeExists e (length (c .payloads))) _ _ h in
+    let (fit, h₂) = asked (writable (change e c)) _ _ h₁ in
+    let (small, h₃) = asked (leb (declared (change e c)) mostDeclared) _ _ h₂ in
+    let (fits, h₄) = asked (leb (carrierLength (change e c)) room) _ _ h₃ in
+    let is : change e c ≡ d = cc in
+    rw (← is) (record {
+      is = refl;
+      place = place;
+      fit = T-of fit;
+      small = leb→le (declared (change e c)) mostDeclared (T-of small);
+      fits = leb→le (carrierLength (change e c)) room (T-of fits);
+    })
 
 -- an edit of a carrier is the step of its contents
 stepped-is : (e : Edit) {s : List ℕ} {c : Contents} (room : ℕ) → Carries s c → stepFrom (reading s) (length s) e room ≡ step e room c
@@ -158,26 +158,35 @@ next-carries (unchanged why) dst k f = k
 
 changed-carries : (e : Edit) (room : ℕ) {s : List ℕ} (c : Contents) → EditBytes e → Carries s c → (c′ : Contents) → step e room c ≡ changed c′ → Carries (carrier c′) c′
 changed-carries e room c b k c′ h =
-    let d = step-inv e room c c′ h in
-    let f : T (contentsAreBytes (change e c)) = change-bytes e c b (k .bytes) in
-    let r : Carries (carrier (change e c)) (change e c) = record { is = refl; fit = d .1 .fit; bytes = f; small = d .1 .small } in
-    rw (d .0) at r
+    let d = changes e room c c′ h in
+    record { is = refl; fit = d .fit; bytes = rw (d .is) at (change-bytes e c b (k .bytes)); small = d .small }
 
--- ---- a list of edits
+-- one call follows its event
+pub record Followed (s : List ℕ) (c : Contents) (t : Call) : Type 0 where
+  pub left : Carries (done s t .left) (outcome c (eventOf t) .contents)
+  pub answered : done s t .answer ≡ outcome c (eventOf t) .answer
 
-pub record Followed (s : List ℕ) (c : Contents) (ts : List Task) : Type 0 where
-  pub left : Carries (leaves s ts) (plainContents c ts)
-  pub answered : answers s ts ≡ plainAnswers c ts
-
-follow : (s : List ℕ) (c : Contents) (ts : List Task) → TaskBytes ts → Carries s c → Followed s c ts
-unfolding leaves answers plainContents plainAnswers edited TaskBytes
-follow s c [] b k = record { left = k; answered = refl }
-follow s c (t ∷ ts) b k =
+followed : (s : List ℕ) (c : Contents) (t : Call) → EditBytes (t .edit) → Carries s c → Followed s c t
+unfolding done outcome edited
+followed s c t b k =
     let room = length (t .destination) in
     let o = stepped-is (t .edit) room k in
-    let n = next-carries (step (t .edit) room c) (t .destination) k (changed-carries (t .edit) room c (b .0) k) in
-    let r = follow _ _ ts (b .1) n in
-    record { left = rw o (r .left); answered = rw (o, r .answered) }
+    let n = next-carries (step (t .edit) room c) (t .destination) k (changed-carries (t .edit) room c b k) in
+    record { left = rw o n; answered = rw o }
+
+-- ---- a list of calls
+
+pub record FollowedAll (s : List ℕ) (c : Contents) (ts : List Call) : Type 0 where
+  pub left : Carries (leaves s ts) (plainContents c (events ts))
+  pub answered : answers s ts ≡ plainAnswers c (events ts)
+
+follow : (s : List ℕ) (c : Contents) (ts : List Call) → CallsBytes ts → Carries s c → FollowedAll s c ts
+unfolding leaves answers events plainContents plainAnswers CallsBytes
+follow s c [] b k = record { left = k; answered = refl }
+follow s c (t ∷ ts) b k =
+    let f = followed s c t (b .0) k in
+    let r = follow _ _ ts (b .1) (f .left) in
+    record { left = r .left; answered = rw (f .answered, r .answered) }
 
 pub equality-of-carriers : EqualityOfCarriers
 equality-of-carriers = record {

@@ -11,7 +11,7 @@ use Rattle.openjoc_bitio.specs.Bits.{numberBits}
 use Rattle.openjoc_bitio.proofs.Bits.{length-number}
 use Rattle.emdf_format.specs.Syntax.{_⨟_, variableField, extendedField, octetBits}
 use Rattle.emdf_format.specs.Contents.{Payload, Contents, configBits, payloadBits, payloadsBits, protectionBits, containerBits, carrierBits, bytesOf, carrier}
-use Rattle.emdf_format.specs.Edits.{bodyEdit, settingsEdit, dropEdit, insertEdit, keyEdit, protectionEdit, withBody, withConfig, withPayloads, change, carrierLength, Bytes}
+use Rattle.emdf_format.specs.Edits.{bodyEdit, settingsEdit, dropEdit, insertEdit, keyEdit, protectionEdit, withAt, withBody, withConfig, withPayloads, change, carrierLength, Bytes}
 use Rattle.emdf_format.specs.Reading.{Found, payloadOf, payloadsOf}
 use Rattle.emdf_format.specs.Calls.{bodyStart}
 use Rattle.emdf_format.specs.declared.EmdfPayloadConfig.{EmdfPayloadConfig}
@@ -65,16 +65,15 @@ between c k j ms =
 -- the payload at place k, and what a change of it leaves
 pub record Placed (k : ℕ) (xs : List Payload) (x : Payload) : Type 0 where
   is : xs ≡ take k xs ++ (x ∷ drop (suc k) xs)
-  body : (bs : List ℕ) → withBody k bs xs ≡ take k xs ++ (record { id = x .id; config = x .config; body = bs } ∷ drop (suc k) xs)
-  config : (t : EmdfPayloadConfig) → withConfig k t xs ≡ take k xs ++ (record { id = x .id; config = t; body = x .body } ∷ drop (suc k) xs)
+  other : (f : Payload → Payload) → withAt k f xs ≡ take k xs ++ (f x ∷ drop (suc k) xs)
 
 pub placed : (k : ℕ) (xs : List Payload) {x : Payload} → getElem? xs k ≡ some x → Placed k xs x
-unfolding withBody withConfig
+unfolding withAt
 placed k [] h = absurd (let w : _≡_ {A = ℕ} 0 1 = cc in omega arith)
-placed zero (y ∷ xs) {x} h = let e : y ≡ x = cc in rw e (record { is = refl; body = λ bs. refl; config = λ t. refl })
+placed zero (y ∷ xs) {x} h = let e : y ≡ x = cc in rw e (record { is = refl; other = λ f. refl })
 placed (suc k) (y ∷ xs) h =
     let r = placed k xs h in
-    record { is = ap (λ (l : List Payload). y ∷ l) (r .is); body = λ bs. ap (λ (l : List Payload). y ∷ l) (r .body bs); config = λ t. ap (λ (l : List Payload). y ∷ l) (r .config t) }
+    record { is = ap (λ (l : List Payload). y ∷ l) (r .is); other = λ f. ap (λ (l : List Payload). y ∷ l) (r .other f) }
 
 -- ---- the six edits: the bits before, those that are replaced and by what, those after
 
@@ -114,7 +113,7 @@ module _ (c : Contents) (k : ℕ) where
       new = variableField 8 (length bs) ⨟ octetBits bs;
       after = bitsFrom c (suc k);
       was = here ∙ simp ⨟-assoc;
-      is = with-one _ (placed k ps at .body bs) ∙ simp ⨟-assoc;
+      is = with-one _ (placed k ps at .other (withBody bs)) ∙ simp ⨟-assoc;
     }
 
     unfoldable pub splice-settings : (t : EmdfPayloadConfig) → Splice c (change (settingsEdit k t) c)
@@ -125,7 +124,7 @@ module _ (c : Contents) (k : ℕ) where
       new = configBits t;
       after = variableField 8 (length (x .body)) ⨟ octetBits (x .body) ⨟ bitsFrom c (suc k);
       was = here ∙ simp ⨟-assoc;
-      is = with-one _ (placed k ps at .config t) ∙ simp ⨟-assoc;
+      is = with-one _ (placed k ps at .other (withConfig t)) ∙ simp ⨟-assoc;
     }
 
     unfoldable pub splice-drop : Splice c (change (dropEdit k) c)

@@ -2,7 +2,7 @@
 use mathlib.Core.Path.{_≡_, refl}
 use mathlib.Core.Bool.{true, false}
 use mathlib.Core.List.{List, [], _∷_, _++_}
-use Prim.Native.Nat.{ℕ, _^_}
+use Prim.Native.Nat.{ℕ, _-_, _*_, _^_}
 use lib.ListN.{length}
 use Rattle.openjoc_bitio.specs.Bits.{bitAt, bitsValue, numberBits}
 use Rattle.openjoc_bitio.specs.Cursor.{bitLength, bitsRemaining, readBits}
@@ -11,16 +11,18 @@ use Rattle.emdf_format.specs.declared.Optional.{Optional}
 use Rattle.emdf_format.specs.declared.Optional.the-variants.{Absent, Present}
 use Rattle.emdf_format.specs.declared.EmdfError.the-variants.{TruncatedContainer, Bit, ExcessPadding}
 use Rattle.emdf_format.specs.declared.EmdfPayloadConfig.{EmdfPayloadConfig}
+use Rattle.emdf_format.specs.declared.Refusal.the-variants.{One, Two}
 use Rattle.emdf_format.specs.declared.JocValidationProfile.the-variants.{EtsiStrict, ObservedVendorCompat}
 use Rattle.emdf_format.specs.declared.EditError.the-variants.{DestinationTooShort}
 use Rattle.emdf_format.specs.declared.EditAnswer.the-variants.{Written, Refused}
 use Rattle.emdf_format.specs.Syntax.{_⨟_, groupsBefore, variableField, countBefore, groups, escape, extendedField, octetBits, flaggedField, presentField}
-use Rattle.emdf_format.specs.Contents.{_&_, iff, isPresent, isOne, whenPresent, upTo, hasAligned, hasPriority, ruled, writableConfig, writablePayload, writablePayloads, protectionLength, protectionCode, codable, writable, extensionBits, flaggedBits, presentBits, neededConfig, neededPayload, neededPayloads, neededBits, declared, sampleOffsetBits, codecDataBits, configBits, payloadBits, payloadsBits, protectionBits, containerBits, carrierBits, bitsNumber, bytesOf, carrier}
+use Rattle.emdf_format.specs.Contents.{_&_, iff, isPresent, isOne, whenPresent, upTo, hasAligned, hasPriority, presentAsRuled, writableConfig, writablePayload, writablePayloads, protectionLength, protectionCode, codable, writable, extensionBits, flaggedBits, presentBits, neededConfig, neededPayload, neededPayloads, neededBits, declared, sampleOffsetBits, codecDataBits, configBits, payloadBits, payloadsBits, protectionBits, containerBits, carrierBits, bitsNumber, bytesOf, carrier}
 use Rattle.emdf_format.specs.Reader.{andThen, _>>=_, give, ask, choose, position, remaining, fromBits, bits, groupsFrom, variableBits, extendedValue, octets, present, flagged}
 use Rattle.emdf_format.specs.Reading.{reserved, sampleOffset, codecData, configControls, payloadConfig, Found, traceOf, payloadAfter, payloads, Container, padding, containerEnd, container, accepted, refusal, consumed, reading, payloadsOf, contentsOf}
-use Rattle.emdf_format.specs.Calls.{number, figures, nonEmdf, trailingData, classOf, classify}
-use Rattle.emdf_format.specs.Profile.{meets, table56, deviates, differ, marks, deviations, word, ones, passes, lets, allPass, meetsProfile}
-use Rattle.emdf_format.specs.Edits.{bodyEdit, dropEdit, withBody, withPayloads, change, placeExists, inRoom, weighed, step, stepAnswer, written, stepFrom, edited}
+use Rattle.emdf_format.specs.Refusals.{refusalOf}
+use Rattle.emdf_format.specs.Calls.{nonEmdf, trailingData, classOf, classify}
+use Rattle.emdf_format.specs.Profile.{meets, table56, deviates, differ, marks, deviations, word, ones, passes, allows, allPass, meetsProfile}
+use Rattle.emdf_format.specs.Edits.{bodyEdit, dropEdit, withAt, withPayloads, change, placeExists, inRoom, stepTo, step, stepAnswer, written, stepFrom, edited}
 
 abbrev A : List ℕ
 A = 0x58 ∷ 0x38 ∷ 0x00 ∷ 0x03 ∷ 0x00 ∷ 0x12 ∷ 0x94 ∷ []
@@ -65,19 +67,19 @@ eleven = 9 ∷ 9 ∷ 9 ∷ eight
 pub record Starred : Type 0 where
   pub A-reads : reading A ≡ accepted 7 inA
   pub A-written : carrier (contentsOf inA) ≡ A
+  pub A-padding : 8 * declared (contentsOf inA) - length (containerBits (contentsOf inA)) ≡ 2
   pub B-reads : reading B ≡ accepted 11 inB
   pub B-written : carrier (contentsOf inB) ≡ B
+  pub B-padding : 8 * declared (contentsOf inB) - length (containerBits (contentsOf inB)) ≡ 7
   pub drop-answers : edited (dropEdit 0) B eight .answer ≡ Written (record { 0 = 7 })
   pub drop-writes : edited (dropEdit 0) B eight .destination ≡ A ++ 9 ∷ []
   pub drop-wants-room : edited (dropEdit 0) B (9 ∷ []) .answer ≡ Refused (DestinationTooShort (record { 0 = 7 }))
   pub body-answers : edited (bodyEdit 0 []) B eleven .answer ≡ Written (record { 0 = 10 })
   pub body-writes : edited (bodyEdit 0 []) B eleven .destination ≡ emptied ++ 9 ∷ []
   pub ten-left : reading (0x58 ∷ 0x38 ∷ 0x00 ∷ 0x04 ∷ 0x00 ∷ 0x12 ∷ 0x94 ∷ 0x00 ∷ []) ≡ refusal (ExcessPadding 10)
-  pub ten-left-number : number (ExcessPadding 10) ≡ 11
-  pub ten-left-figures : figures (ExcessPadding 10) ≡ 10 ∷ []
+  pub ten-left-refusal : refusalOf (ExcessPadding 10) ≡ One 11 10
   pub two-bytes : reading (0x58 ∷ 0x38 ∷ []) ≡ refusal (TruncatedContainer 4 2)
-  pub two-bytes-number : number (TruncatedContainer 4 2) ≡ 1
-  pub two-bytes-figures : figures (TruncatedContainer 4 2) ≡ 4 ∷ 2 ∷ []
+  pub two-bytes-refusal : refusalOf (TruncatedContainer 4 2) ≡ Two 1 4 2
   pub one-byte : classify (0x58 ∷ []) ≡ nonEmdf
   pub A-trailed : classify (A ++ 0x00 ∷ []) ≡ trailingData 7 8
   pub three : variableField 2 3 ≡ 1 ∷ 1 ∷ 0 ∷ []
@@ -89,23 +91,23 @@ pub record Starred : Type 0 where
   pub size-256 : length (variableField 8 256) ≡ 18
 
 pub starred : Starred
-unfolding bitAt bitsValue numberBits bitLength bitsRemaining readBits _⨟_ groupsBefore variableField countBefore groups escape extendedField octetBits flaggedField presentField _&_ iff isPresent isOne whenPresent upTo hasAligned hasPriority ruled writableConfig writablePayload writablePayloads protectionLength protectionCode codable writable extensionBits flaggedBits presentBits neededConfig neededPayload neededPayloads neededBits declared sampleOffsetBits codecDataBits configBits payloadBits payloadsBits protectionBits containerBits carrierBits bitsNumber bytesOf carrier andThen _>>=_ give ask choose position remaining fromBits bits groupsFrom variableBits extendedValue octets present flagged reserved sampleOffset codecData configControls payloadConfig payloadAfter payloads padding containerEnd container consumed reading payloadsOf figures classOf classify withBody withPayloads change placeExists inRoom weighed step stepAnswer written stepFrom edited
+unfolding bitAt bitsValue numberBits bitLength bitsRemaining readBits _⨟_ groupsBefore variableField countBefore groups escape extendedField octetBits flaggedField presentField _&_ iff isPresent isOne whenPresent upTo hasAligned hasPriority presentAsRuled writableConfig writablePayload writablePayloads protectionLength protectionCode codable writable extensionBits flaggedBits presentBits neededConfig neededPayload neededPayloads neededBits declared sampleOffsetBits codecDataBits configBits payloadBits payloadsBits protectionBits containerBits carrierBits bitsNumber bytesOf carrier andThen _>>=_ give ask choose position remaining fromBits bits groupsFrom variableBits extendedValue octets present flagged reserved sampleOffset codecData configControls payloadConfig payloadAfter payloads padding containerEnd container consumed reading payloadsOf classOf classify withAt withPayloads change placeExists inRoom stepTo step stepAnswer written stepFrom edited
 starred = record {
   A-reads = refl;
   A-written = refl;
+  A-padding = refl;
   B-reads = refl;
   B-written = refl;
+  B-padding = refl;
   drop-answers = refl;
   drop-writes = refl;
   drop-wants-room = refl;
   body-answers = refl;
   body-writes = refl;
   ten-left = refl;
-  ten-left-number = refl;
-  ten-left-figures = refl;
+  ten-left-refusal = refl;
   two-bytes = refl;
-  two-bytes-number = refl;
-  two-bytes-figures = refl;
+  two-bytes-refusal = refl;
   one-byte = refl;
   A-trailed = refl;
   three = refl;
@@ -167,7 +169,7 @@ pub record Mistakes : Type 0 where
   pub not-strict : meetsProfile EtsiStrict unaligned (joined (Present 5)) ≡ false
 
 pub mistakes : Mistakes
-unfolding bitAt bitsValue numberBits bitLength bitsRemaining readBits _⨟_ groupsBefore variableField countBefore groups escape extendedField octetBits flaggedField presentField _&_ iff isPresent isOne whenPresent upTo hasAligned hasPriority ruled writableConfig writablePayload writablePayloads protectionLength protectionCode codable writable extensionBits flaggedBits presentBits neededConfig neededPayload neededPayloads neededBits declared sampleOffsetBits codecDataBits configBits payloadBits payloadsBits protectionBits containerBits carrierBits bitsNumber bytesOf carrier andThen _>>=_ give ask choose position remaining fromBits bits groupsFrom variableBits extendedValue octets present flagged reserved sampleOffset codecData configControls payloadConfig payloadAfter payloads padding containerEnd container consumed reading payloadsOf differ meets marks deviates table56 deviations word ones passes lets allPass meetsProfile
+unfolding bitAt bitsValue numberBits bitLength bitsRemaining readBits _⨟_ groupsBefore variableField countBefore groups escape extendedField octetBits flaggedField presentField _&_ iff isPresent isOne whenPresent upTo hasAligned hasPriority presentAsRuled writableConfig writablePayload writablePayloads protectionLength protectionCode codable writable extensionBits flaggedBits presentBits neededConfig neededPayload neededPayloads neededBits declared sampleOffsetBits codecDataBits configBits payloadBits payloadsBits protectionBits containerBits carrierBits bitsNumber bytesOf carrier andThen _>>=_ give ask choose position remaining fromBits bits groupsFrom variableBits extendedValue octets present flagged reserved sampleOffset codecData configControls payloadConfig payloadAfter payloads padding containerEnd container consumed reading payloadsOf differ meets marks deviates table56 deviations word ones passes allows allPass meetsProfile
 mistakes = record {
   padding-length-first = refl;
   both-codes-first = refl;

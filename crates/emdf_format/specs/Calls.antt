@@ -1,4 +1,4 @@
--- What the calls on a carrier answer: the refusals' numbers and figures, records, class, bodies. Assumes nothing.
+-- What the calls on a carrier answer: records, class, bodies. Assumes nothing.
 use mathlib.Core.Path.{_≡_}
 use mathlib.Core.Bool.{Bool, _||_}
 use mathlib.Core.List.{List, [], _∷_, _++_}
@@ -8,94 +8,13 @@ use lib.ListN.{length, take, drop, getElem?}
 use lib.Dec.{leb, eqb}
 use Rattle.openjoc_bitio.specs.Choice.{if_then_else_}
 use Rattle.openjoc_bitio.specs.Bits.{bitsValue}
-use Rattle.openjoc_bitio.specs.Cursor as bit
-use Rattle.emdf_format.specs.declared.EmdfError.{EmdfError}
-use Rattle.emdf_format.specs.declared.EmdfError.the-variants.{TruncatedContainer, InvalidSyncword, Bit, InvalidVariableBits, VariableBitsGroupLimit, ValueOverflow, UnsupportedVersion, NonzeroReservedData, ReservedPrimaryProtectionLength, ExcessPadding, NonzeroPadding}
-use Rattle.emdf_format.specs.declared.RecordsError.{RecordsError}
+use Rattle.emdf_format.specs.Types.{EmdfError, RecordsError, BodyError, BodyAnswer, PayloadRecord}
 use Rattle.emdf_format.specs.declared.RecordsError.the-variants as RecordsError
-use Rattle.emdf_format.specs.declared.BodyError.{BodyError}
 use Rattle.emdf_format.specs.declared.BodyError.the-variants as BodyError
-use Rattle.emdf_format.specs.declared.BodyAnswer.{BodyAnswer}
 use Rattle.emdf_format.specs.declared.BodyAnswer.the-variants as BodyAnswer
-use Rattle.emdf_format.specs.declared.JocProfileError.{JocProfileError}
-use Rattle.emdf_format.specs.declared.JocProfileError.the-variants as JocProfileError
-use Rattle.emdf_format.specs.declared.EditError.{EditError}
-use Rattle.emdf_format.specs.declared.EditError.the-variants as EditError
-use Rattle.emdf_format.specs.declared.PayloadRecord.{PayloadRecord}
+use Rattle.emdf_format.specs.Syntax.{syncword}
 use Rattle.emdf_format.specs.Contents.{_&_}
 use Rattle.emdf_format.specs.Reading.{Found, Container, Reading, accepted, refusal, reading}
-
--- ---- a refusal's number in the scope, and its figures
-
-abbrev pub number : EmdfError → ℕ
-number (TruncatedContainer declared available) = 1
-number (InvalidSyncword actual) = 2
-number (Bit why) = bit.number why
-number (InvalidVariableBits width limit) = 5
-number (VariableBitsGroupLimit width limit) = 6
-number ValueOverflow = 7
-number (UnsupportedVersion version) = 8
-number NonzeroReservedData = 9
-number ReservedPrimaryProtectionLength = 10
-number (ExcessPadding bits) = 11
-number NonzeroPadding = 12
-
-unfoldable pub figures : EmdfError → List ℕ
-figures (TruncatedContainer declared available) = declared ∷ available ∷ []
-figures (InvalidSyncword actual) = actual ∷ []
-figures (Bit why) = bit.figures why
-figures (InvalidVariableBits width limit) = width ∷ limit ∷ []
-figures (VariableBitsGroupLimit width limit) = width ∷ limit ∷ []
-figures ValueOverflow = []
-figures (UnsupportedVersion version) = version ∷ []
-figures NonzeroReservedData = []
-figures ReservedPrimaryProtectionLength = []
-figures (ExcessPadding bits) = bits ∷ []
-figures NonzeroPadding = []
-
-unfoldable pub recordsNumber : RecordsError → ℕ
-recordsNumber (RecordsError.Emdf why) = number why
-recordsNumber (RecordsError.TableTooShort payloads) = 13
-
-unfoldable pub recordsFigures : RecordsError → List ℕ
-recordsFigures (RecordsError.Emdf why) = figures why
-recordsFigures (RecordsError.TableTooShort payloads) = payloads ∷ []
-
-unfoldable pub bodyNumber : BodyError → ℕ
-bodyNumber (BodyError.Emdf why) = number why
-bodyNumber BodyError.NoSuchPayload = 16
-bodyNumber (BodyError.ScratchTooShort needed) = 19
-
-unfoldable pub bodyFigures : BodyError → List ℕ
-bodyFigures (BodyError.Emdf why) = figures why
-bodyFigures BodyError.NoSuchPayload = []
-bodyFigures (BodyError.ScratchTooShort needed) = needed .0 ∷ []
-
-unfoldable pub profileNumber : JocProfileError → ℕ
-profileNumber (JocProfileError.Emdf why) = number why
-profileNumber (JocProfileError.PayloadCount oamd joc) = 14
-profileNumber (JocProfileError.Configuration deviations count) = 15
-
-unfoldable pub profileFigures : JocProfileError → List ℕ
-profileFigures (JocProfileError.Emdf why) = figures why
-profileFigures (JocProfileError.PayloadCount oamd joc) = oamd ∷ joc ∷ []
-profileFigures (JocProfileError.Configuration deviations count) = deviations ∷ count ∷ []
-
-unfoldable pub editNumber : EditError → ℕ
-editNumber (EditError.Emdf why) = number why
-editNumber EditError.TrailingData = 20
-editNumber EditError.NoSuchPlace = 16
-editNumber EditError.NotWritable = 17
-editNumber EditError.TooLong = 18
-editNumber (EditError.DestinationTooShort needed) = 19
-
-unfoldable pub editFigures : EditError → List ℕ
-editFigures (EditError.Emdf why) = figures why
-editFigures EditError.TrailingData = []
-editFigures EditError.NoSuchPlace = []
-editFigures EditError.NotWritable = []
-editFigures EditError.TooLong = []
-editFigures (EditError.DestinationTooShort needed) = needed .0 ∷ []
 
 -- ---- records
 
@@ -131,7 +50,7 @@ classOf (accepted n c) len = if eqb n len then parsed n c else trailingData n le
 classOf (refusal why) len = malformed why
 
 unfoldable pub classify : List ℕ → Class
-classify s = if leb 2 (length s) & eqb (bitsValue s 0 16) 0x5838 then classOf (reading s) (length s) else nonEmdf
+classify s = if leb 2 (length s) & eqb (bitsValue s 0 16) syncword then classOf (reading s) (length s) else nonEmdf
 
 -- ---- bodies
 
@@ -155,15 +74,15 @@ BodiesAtSpans s (x ∷ xs) =
     × BodiesAtSpans s xs
 
 -- a body that starts on a byte stays where it is; another one wants room in the scratch
-unfoldable pub moved : Option Found → ℕ → BodyAnswer
-moved none room = BodyAnswer.Refused BodyError.NoSuchPayload
-moved (some x) room =
+unfoldable pub foundMoved : Option Found → ℕ → BodyAnswer
+foundMoved none room = BodyAnswer.Refused BodyError.NoSuchPayload
+foundMoved (some x) room =
     if startsOnByte x || leb (length (x .body)) room
     then BodyAnswer.Body (record { 0 = bodyStart x }) (record { 0 = length (x .body) })
     else BodyAnswer.Refused (BodyError.ScratchTooShort (record { 0 = length (x .body) }))
 
 unfoldable pub moveBody : Reading → ℕ → ℕ → BodyAnswer
-moveBody (accepted n c) k room = moved (getElem? (c .found) k) room
+moveBody (accepted n c) k room = foundMoved (getElem? (c .found) k) room
 moveBody (refusal why) k room = BodyAnswer.Refused (BodyError.Emdf why)
 
 unfoldable pub foundAt : Reading → ℕ → Option Found
@@ -177,6 +96,11 @@ scratchAfter (some x) scratch =
     if startsOnByte x
     then scratch
     else (if leb (length (x .body)) (length scratch) then x .body ++ drop (length (x .body)) scratch else scratch)
+
+-- what the moving call gives: its answer, and its scratch at exit
+abbrev pub MovesBody : List ℕ → ℕ → List ℕ → BodyAnswer → List ℕ → Type 0
+MovesBody s k scratch answer exit =
+    (answer ≡ moveBody (reading s) k (length scratch)) × (exit ≡ scratchAfter (foundAt (reading s) k) scratch)
 
 -- what the choosing call hands back: a part of the carrier, or of the scratch
 unfoldable pub chooseBody : Option Found → List ℕ → List ℕ → List ℕ

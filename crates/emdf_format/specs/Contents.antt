@@ -6,10 +6,9 @@ use lib.ListN.{length, take, drop}
 use lib.Dec.{leb, ltb, eqb}
 use Rattle.openjoc_bitio.specs.Choice.{if_then_else_}
 use Rattle.openjoc_bitio.specs.Bits.{numberBits}
-use Rattle.emdf_format.specs.declared.Optional.{Optional}
+use Rattle.emdf_format.specs.Types.{Optional, EmdfPayloadConfig}
 use Rattle.emdf_format.specs.declared.Optional.the-variants.{Absent, Present}
-use Rattle.emdf_format.specs.declared.EmdfPayloadConfig.{EmdfPayloadConfig}
-use Rattle.emdf_format.specs.Syntax.{_⨟_, variableField, groups, escape, extendedField, octetBits, flaggedField, presentField}
+use Rattle.emdf_format.specs.Syntax.{syncword, _⨟_, variableField, groups, escape, extendedField, octetBits, flaggedField, presentField}
 
 -- ---- contents: the scope, 'Contents and edits'
 
@@ -27,6 +26,7 @@ pub record Contents : Type 0 where
 -- ---- tests
 
 infixr 35 _&_
+-- and: unlike the library's _&&_ it stays shut until a proof opens it
 unfoldable pub _&_ : Bool → Bool → Bool
 true & b = b
 false & b = false
@@ -63,8 +63,8 @@ unfoldable pub hasPriority : ℕ → Optional → Optional → Bool
 hasPriority discard sample-offset aligned = eqb discard 0 & (isPresent sample-offset || isOne aligned)
 
 -- present exactly where the rule says so, and then at most n
-unfoldable pub ruled : Bool → ℕ → Optional → Bool
-ruled there n o = whenPresent (upTo n) o & iff (isPresent o) there
+unfoldable pub presentAsRuled : Bool → ℕ → Optional → Bool
+presentAsRuled there n o = whenPresent (upTo n) o & iff (isPresent o) there
 
 -- ---- writable
 
@@ -75,11 +75,11 @@ writableConfig t =
     & whenPresent (upTo 6_148_914_691_236_517_203) (t .«group_id»)
     & upTo 1 (t .«codec_data_present»)
     & upTo 1 (t .«discard_unknown_payload»)
-    & ruled (hasAligned (t .«discard_unknown_payload») (t .«sample_offset»)) 1 (t .«payload_frame_aligned»)
-    & ruled (isOne (t .«payload_frame_aligned»)) 1 (t .«create_duplicate»)
-    & ruled (isOne (t .«payload_frame_aligned»)) 1 (t .«remove_duplicate»)
-    & ruled (hasPriority (t .«discard_unknown_payload») (t .«sample_offset») (t .«payload_frame_aligned»)) 31 (t .priority)
-    & ruled (hasPriority (t .«discard_unknown_payload») (t .«sample_offset») (t .«payload_frame_aligned»)) 3 (t .«processing_allowed»)
+    & presentAsRuled (hasAligned (t .«discard_unknown_payload») (t .«sample_offset»)) 1 (t .«payload_frame_aligned»)
+    & presentAsRuled (isOne (t .«payload_frame_aligned»)) 1 (t .«create_duplicate»)
+    & presentAsRuled (isOne (t .«payload_frame_aligned»)) 1 (t .«remove_duplicate»)
+    & presentAsRuled (hasPriority (t .«discard_unknown_payload») (t .«sample_offset») (t .«payload_frame_aligned»)) 31 (t .priority)
+    & presentAsRuled (hasPriority (t .«discard_unknown_payload») (t .«sample_offset») (t .«payload_frame_aligned»)) 3 (t .«processing_allowed»)
 
 unfoldable pub writablePayload : Payload → Bool
 writablePayload x = leb 1 (x .id) & ltb (x .id) (2 ^ 64) & writableConfig (x .config)
@@ -204,7 +204,7 @@ containerBits c =
 -- the carrier: the sync word, the declared length, the container, zero bits to the byte
 unfoldable pub carrierBits : Contents → List ℕ
 carrierBits c =
-    numberBits 16 0x5838
+    numberBits 16 syncword
     ⨟ numberBits 16 (declared c)
     ⨟ containerBits c
     ⨟ numberBits (8 * declared c - length (containerBits c)) 0

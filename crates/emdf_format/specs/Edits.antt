@@ -1,4 +1,4 @@
--- The six edits: on plain contents, on carriers, and lists of them; and what is claimed of whole lists. Assumes nothing.
+-- The six edits: on plain contents, on carriers, and lists of calls; and what is claimed of whole lists. Assumes nothing.
 use mathlib.Core.Path.{_≡_}
 use mathlib.Core.Bool.{Bool, true}
 use mathlib.Core.List.{List, [], _∷_, _++_}
@@ -7,11 +7,11 @@ use Prim.Native.Nat.{ℕ, zero, suc, _+_, _<_, _≤_}
 use lib.ListN.{length, getD, take, drop}
 use lib.Dec.{leb, ltb, eqb}
 use Rattle.openjoc_bitio.specs.Choice.{if_then_else_}
-use Rattle.emdf_format.specs.declared.EmdfPayloadConfig.{EmdfPayloadConfig}
-use Rattle.emdf_format.specs.declared.EditError.{EditError}
+use Rattle.openjoc_bitio.specs.declared.ByteCount.{ByteCount}
+use Rattle.emdf_format.specs.Types.{EmdfPayloadConfig, EditError, EditAnswer}
 use Rattle.emdf_format.specs.declared.EditError.the-variants.{Emdf, TrailingData, NoSuchPlace, NotWritable, TooLong, DestinationTooShort}
-use Rattle.emdf_format.specs.declared.EditAnswer.{EditAnswer}
 use Rattle.emdf_format.specs.declared.EditAnswer.the-variants.{Written, Refused}
+use Rattle.emdf_format.specs.Syntax.{mostDeclared}
 use Rattle.emdf_format.specs.Contents.{Payload, Contents, writable, declared, carrier}
 use Rattle.emdf_format.specs.Reading.{Container, Reading, accepted, refusal, reading, contentsOf}
 use Rattle.emdf_format.specs.Calls.{recorded, inTable, BodiesAtSpans}
@@ -27,23 +27,25 @@ pub data Edit : Type 0 where
 
 -- ---- on contents
 
-unfoldable pub withBody : ℕ → List ℕ → List Payload → List Payload
-withBody k bs [] = []
-withBody zero bs (x ∷ xs) = record { id = x .id; config = x .config; body = bs } ∷ xs
-withBody (suc k) bs (x ∷ xs) = x ∷ withBody k bs xs
+-- another payload at place k
+unfoldable pub withAt : ℕ → (Payload → Payload) → List Payload → List Payload
+withAt k f [] = []
+withAt zero f (x ∷ xs) = f x ∷ xs
+withAt (suc k) f (x ∷ xs) = x ∷ withAt k f xs
 
-unfoldable pub withConfig : ℕ → EmdfPayloadConfig → List Payload → List Payload
-withConfig k t [] = []
-withConfig zero t (x ∷ xs) = record { id = x .id; config = t; body = x .body } ∷ xs
-withConfig (suc k) t (x ∷ xs) = x ∷ withConfig k t xs
+abbrev pub withBody : List ℕ → Payload → Payload
+withBody bs x = record { id = x .id; config = x .config; body = bs }
+
+abbrev pub withConfig : EmdfPayloadConfig → Payload → Payload
+withConfig t x = record { id = x .id; config = t; body = x .body }
 
 unfoldable pub withPayloads : Contents → List Payload → Contents
 withPayloads c xs = record { key-id = c .key-id; payloads = xs; primary = c .primary; secondary = c .secondary }
 
 -- each replaces just what it names; an insert stands before place k
 unfoldable pub change : Edit → Contents → Contents
-change (bodyEdit k bs) c = withPayloads c (withBody k bs (c .payloads))
-change (settingsEdit k t) c = withPayloads c (withConfig k t (c .payloads))
+change (bodyEdit k bs) c = withPayloads c (withAt k (withBody bs) (c .payloads))
+change (settingsEdit k t) c = withPayloads c (withAt k (withConfig t) (c .payloads))
 change (dropEdit k) c = withPayloads c (take k (c .payloads) ++ drop (suc k) (c .payloads))
 change (insertEdit k i t bs) c =
     withPayloads c (take k (c .payloads) ++ record { id = i; config = t; body = bs } ∷ drop k (c .payloads))
@@ -66,18 +68,19 @@ pub data Stepped : Type 0 where
 abbrev pub carrierLength : Contents → ℕ
 carrierLength c = 4 + declared c
 
--- 19, then 17 and 18 before it, of the copy; room is the destination's length
+-- 19, of the copy; room is the destination's length
 unfoldable pub inRoom : ℕ → Contents → Stepped
 inRoom room c =
     if leb (carrierLength c) room then changed c else unchanged (DestinationTooShort (record { 0 = carrierLength c }))
 
-unfoldable pub weighed : ℕ → Contents → Stepped
-weighed room c =
-    if writable c then (if leb (declared c) 65535 then inRoom room c else unchanged TooLong) else unchanged NotWritable
+-- 17 and 18 before it
+unfoldable pub stepTo : ℕ → Contents → Stepped
+stepTo room c =
+    if writable c then (if leb (declared c) mostDeclared then inRoom room c else unchanged TooLong) else unchanged NotWritable
 
 -- the plain step: an edit's arguments and its destination's length, and nothing from a program
 unfoldable pub step : Edit → ℕ → Contents → Stepped
-step e room c = if placeExists e (length (c .payloads)) then weighed room (change e c) else unchanged NoSuchPlace
+step e room c = if placeExists e (length (c .payloads)) then stepTo room (change e c) else unchanged NoSuchPlace
 
 unfoldable pub stepAnswer : Stepped → EditAnswer
 stepAnswer (changed c) = Written (record { 0 = carrierLength c })
@@ -107,47 +110,79 @@ edited e src dst =
     let o : Stepped = stepFrom (reading src) (length src) e (length dst) in
     record { answer = stepAnswer o; destination = written o dst }
 
+-- what a call gives: its answer, and its destination at exit
+abbrev pub Gives : Edited → EditAnswer → List ℕ → Type 0
+Gives e answer exit = (answer ≡ e .answer) × (exit ≡ e .destination)
+
 -- the blank carrier: 17 and 19
+abbrev pub blankContents : ℕ → List ℕ → List ℕ → Contents
+blankContents i a b = record { key-id = i; payloads = []; primary = a; secondary = b }
+
 unfoldable pub blank : ℕ → List ℕ → List ℕ → List ℕ → Edited
 blank i a b dst =
-    let c : Contents = record { key-id = i; payloads = []; primary = a; secondary = b } in
+    let c : Contents = blankContents i a b in
     let o : Stepped = if writable c then inRoom (length dst) c else unchanged NotWritable in
     record { answer = stepAnswer o; destination = written o dst }
 
--- ---- lists of edits, each with a destination of its own
+-- ---- lists of calls, each with a destination of its own
 
-pub record Task : Type 0 where
+pub record Call : Type 0 where
   pub edit : Edit
   pub destination : List ℕ
 
--- the next edit's source: the carrier in the destination, or the same one
+-- the next call's source: the carrier in the destination, or the same one
 unfoldable pub nextSource : List ℕ → EditAnswer → List ℕ → List ℕ
 nextSource src (Written n) dst = take (n .0) dst
 nextSource src (Refused why) dst = src
 
--- the calls' side: the carrier that a list leaves, and each answer
-unfoldable pub leaves : List ℕ → List Task → List ℕ
+-- what a call answers, and the carrier that it leaves
+pub record Done : Type 0 where
+  pub answer : EditAnswer
+  pub left : List ℕ
+
+unfoldable pub done : List ℕ → Call → Done
+done src t =
+    let r : Edited = edited (t .edit) src (t .destination) in
+    record { answer = r .answer; left = nextSource src (r .answer) (r .destination) }
+
+unfoldable pub leaves : List ℕ → List Call → List ℕ
 leaves src [] = src
-leaves src (t ∷ ts) =
-    let r : Edited = edited (t .edit) src (t .destination) in
-    leaves (nextSource src (r .answer) (r .destination)) ts
+leaves src (t ∷ ts) = leaves (done src t .left) ts
 
-unfoldable pub answers : List ℕ → List Task → List EditAnswer
+unfoldable pub answers : List ℕ → List Call → List EditAnswer
 answers src [] = []
-answers src (t ∷ ts) =
-    let r : Edited = edited (t .edit) src (t .destination) in
-    r .answer ∷ answers (nextSource src (r .answer) (r .destination)) ts
+answers src (t ∷ ts) = done src t .answer ∷ answers (done src t .left) ts
 
--- the plain side: the contents that the same list leaves, and each answer
-unfoldable pub plainContents : Contents → List Task → Contents
+-- ---- the plain side: all that it is told of a call is the edit, and how long the destination is
+
+pub record Event : Type 0 where
+  pub edit : Edit
+  pub room : ℕ
+
+abbrev pub eventOf : Call → Event
+eventOf t = record { edit = t .edit; room = length (t .destination) }
+
+unfoldable pub events : List Call → List Event
+events [] = []
+events (t ∷ ts) = eventOf t ∷ events ts
+
+-- what an event answers, and the contents that it leaves
+pub record Outcome : Type 0 where
+  pub answer : EditAnswer
+  pub contents : Contents
+
+unfoldable pub outcome : Contents → Event → Outcome
+outcome c e =
+    let o : Stepped = step (e .edit) (e .room) c in
+    record { answer = stepAnswer o; contents = stepContents o c }
+
+unfoldable pub plainContents : Contents → List Event → Contents
 plainContents c [] = c
-plainContents c (t ∷ ts) = plainContents (stepContents (step (t .edit) (length (t .destination)) c) c) ts
+plainContents c (e ∷ es) = plainContents (outcome c e .contents) es
 
-unfoldable pub plainAnswers : Contents → List Task → List EditAnswer
+unfoldable pub plainAnswers : Contents → List Event → List EditAnswer
 plainAnswers c [] = []
-plainAnswers c (t ∷ ts) =
-    let o : Stepped = step (t .edit) (length (t .destination)) c in
-    stepAnswer o ∷ plainAnswers (stepContents o c) ts
+plainAnswers c (e ∷ es) = outcome c e .answer ∷ plainAnswers (outcome c e .contents) es
 
 -- ---- what the scope claims of whole lists
 
@@ -163,9 +198,9 @@ EditBytes (insertEdit k i t bs) = Bytes bs
 EditBytes (keyEdit i) = Unit {0}
 EditBytes (protectionEdit a b) = Bytes a × Bytes b
 
-unfoldable pub TaskBytes : List Task → Type 0
-TaskBytes [] = Unit {0}
-TaskBytes (t ∷ ts) = EditBytes (t .edit) × TaskBytes ts
+unfoldable pub CallsBytes : List Call → Type 0
+CallsBytes [] = Unit {0}
+CallsBytes (t ∷ ts) = EditBytes (t .edit) × CallsBytes ts
 
 -- reading s answers its length and the contents c: key id, count, protections; in a table long enough each id and settings; and each
 -- body's bytes stand at its span
@@ -176,16 +211,21 @@ pub record ReadsAs (s : List ℕ) (c : Contents) : Type 0 where
   pub records : (rows : ℕ) → length (c .payloads) ≤ rows → inTable rows (reading s) ≡ recorded (length s) container
   pub bodies : BodiesAtSpans s (container .found)
 
--- a list of edits from one carrier: each answer is the plain one, and what is left reads as the plain contents
-pub record Follows (s : List ℕ) (c : Contents) (ts : List Task) : Type 0 where
-  pub answered : answers s ts ≡ plainAnswers c ts
-  pub reads : ReadsAs (leaves s ts) (plainContents c ts)
+-- an accepted blank reads as its contents
+pub record BlankReads : Type 0 where
+  pub claim : (i : ℕ) (a b dst : List ℕ) (n : ByteCount) → Bytes a → Bytes b → blank i a b dst .answer ≡ Written n
+      → ReadsAs (take (n .0) (blank i a b dst .destination)) (blankContents i a b)
 
--- any two carriers that are each exactly one container, any two lists of edits with destinations of any content and length
+-- a list of calls from one carrier: each answer is the plain one, and what is left reads as the plain contents
+pub record Follows (s : List ℕ) (c : Contents) (ts : List Call) : Type 0 where
+  pub answered : answers s ts ≡ plainAnswers c (events ts)
+  pub reads : ReadsAs (leaves s ts) (plainContents c (events ts))
+
+-- any two carriers that are each exactly one container, any two lists of calls with destinations of any content and length
 pub record EqualityOfCarriers : Type 0 where
-  pub claim : (s₁ s₂ : List ℕ) (k₁ k₂ : Container) (ts₁ ts₂ : List Task)
-      → Bytes s₁ → Bytes s₂ → TaskBytes ts₁ → TaskBytes ts₂
+  pub claim : (s₁ s₂ : List ℕ) (k₁ k₂ : Container) (ts₁ ts₂ : List Call)
+      → Bytes s₁ → Bytes s₂ → CallsBytes ts₁ → CallsBytes ts₂
       → reading s₁ ≡ accepted (length s₁) k₁ → reading s₂ ≡ accepted (length s₂) k₂
-      → ((leaves s₁ ts₁ ≡ leaves s₂ ts₂) ↔ (plainContents (contentsOf k₁) ts₁ ≡ plainContents (contentsOf k₂) ts₂))
+      → ((leaves s₁ ts₁ ≡ leaves s₂ ts₂) ↔ (plainContents (contentsOf k₁) (events ts₁) ≡ plainContents (contentsOf k₂) (events ts₂)))
       × Follows s₁ (contentsOf k₁) ts₁
       × Follows s₂ (contentsOf k₂) ts₂

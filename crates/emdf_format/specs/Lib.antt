@@ -1,7 +1,9 @@
+pub mod Types
 pub mod Syntax
 pub mod Contents
 pub mod Reader
 pub mod Reading
+pub mod Refusals
 pub mod Calls
 pub mod Profile
 pub mod Edits

@@ -6,24 +6,15 @@ use mathlib.Core.Option.{Option, none, some}
 use Prim.Native.Nat.{ℕ, suc, _+_, _*_}
 use lib.Dec.{eqb}
 use Rattle.openjoc_bitio.specs.Choice.{if_then_else_}
-use Rattle.emdf_format.specs.declared.Optional.{Optional}
+use Rattle.emdf_format.specs.Types.{Optional, EmdfPayloadConfig, JocProfileField, PlacedConfig, JocRole, JocProfileValue, AllowedDeviation, JocValidationProfile, JocValidationStatus, JocProfileAnswer}
 use Rattle.emdf_format.specs.declared.Optional.the-variants.{Absent, Present}
-use Rattle.emdf_format.specs.declared.EmdfPayloadConfig.{EmdfPayloadConfig}
-use Rattle.emdf_format.specs.declared.JocProfileField.{JocProfileField}
 use Rattle.emdf_format.specs.declared.JocProfileField.the-variants.{SampleOffset, Duration, GroupId, CodecDataPresent, DiscardUnknownPayload, PayloadFrameAligned, CreateDuplicate, RemoveDuplicate, Priority, ProcessingAllowed}
-use Rattle.emdf_format.specs.declared.PlacedConfig.{PlacedConfig}
-use Rattle.emdf_format.specs.declared.JocRole.{JocRole}
 use Rattle.emdf_format.specs.declared.JocRole.the-variants.{Oamd, Joc}
-use Rattle.emdf_format.specs.declared.JocProfileValue.{JocProfileValue}
 use Rattle.emdf_format.specs.declared.JocProfileValue.the-variants as JocProfileValue
-use Rattle.emdf_format.specs.declared.AllowedDeviation.{AllowedDeviation}
 use Rattle.emdf_format.specs.declared.AllowedDeviation.the-variants.{Never, Only}
-use Rattle.emdf_format.specs.declared.JocValidationProfile.{JocValidationProfile}
 use Rattle.emdf_format.specs.declared.JocValidationProfile.the-variants.{EtsiStrict, ObservedVendorCompat}
-use Rattle.emdf_format.specs.declared.JocValidationStatus.{JocValidationStatus}
 use Rattle.emdf_format.specs.declared.JocValidationStatus.the-variants.{NormativeCompliant, AcceptedWithDeviation}
 use Rattle.emdf_format.specs.declared.JocProfileError.the-variants.{Emdf, PayloadCount, Configuration}
-use Rattle.emdf_format.specs.declared.JocProfileAnswer.{JocProfileAnswer}
 use Rattle.emdf_format.specs.declared.JocProfileAnswer.the-variants.{Accepted, Refused}
 use Rattle.emdf_format.specs.Contents.{_&_, isPresent}
 use Rattle.emdf_format.specs.Reading.{Found, Reading, accepted, refusal, reading}
@@ -95,12 +86,12 @@ ones (b ∷ bs) = (if b then 1 else 0) + ones bs
 
 -- ---- the policies
 
-unfoldable pub lets : AllowedDeviation → Optional → Bool
-lets Never o = false
-lets (Only x) o = not (differ x o)
+unfoldable pub allows : AllowedDeviation → Optional → Bool
+allows Never o = false
+allows (Only x) o = not (differ x o)
 
 unfoldable pub passes : Entry → Bool
-passes x = meets (x .wanted) (x .found) || lets (x .allowed) (x .found)
+passes x = meets (x .wanted) (x .found) || allows (x .allowed) (x .found)
 
 unfoldable pub allPass : List Entry → Bool
 allPass [] = true

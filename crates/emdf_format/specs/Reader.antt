@@ -8,9 +8,8 @@ use Rattle.openjoc_bitio.specs.Cursor.{bitsRemaining, readBits}
 use Rattle.openjoc_bitio.specs.declared.BitCursor.{BitCursor}
 use Rattle.openjoc_bitio.specs.declared.BitsAnswer.{BitsAnswer}
 use Rattle.openjoc_bitio.specs.declared.BitsAnswer.the-variants.{Value, Refused}
-use Rattle.emdf_format.specs.declared.Optional.{Optional}
+use Rattle.emdf_format.specs.Types.{Optional, EmdfError}
 use Rattle.emdf_format.specs.declared.Optional.the-variants.{Absent, Present}
-use Rattle.emdf_format.specs.declared.EmdfError.{EmdfError}
 use Rattle.emdf_format.specs.declared.EmdfError.the-variants.{Bit, InvalidVariableBits, VariableBitsGroupLimit, ValueOverflow}
 use Rattle.emdf_format.specs.Syntax.{escape}
 use Rattle.emdf_format.specs.Contents.{_&_}

@@ -7,12 +7,9 @@ use lib.Dec.{leb, ltb, eqb}
 use Rattle.openjoc_bitio.specs.Choice.{if_then_else_}
 use Rattle.openjoc_bitio.specs.Bits.{bitsValue}
 use Rattle.openjoc_bitio.specs.declared.BitError.the-variants.{EndOfInput}
-use Rattle.emdf_format.specs.declared.Optional.{Optional}
-use Rattle.emdf_format.specs.declared.EmdfError.{EmdfError}
+use Rattle.emdf_format.specs.Types.{Optional, EmdfError, EmdfPayloadConfig, EmdfPayloadBitTrace, PayloadRecord}
 use Rattle.emdf_format.specs.declared.EmdfError.the-variants.{TruncatedContainer, InvalidSyncword, Bit, UnsupportedVersion, NonzeroReservedData, ReservedPrimaryProtectionLength, ExcessPadding, NonzeroPadding}
-use Rattle.emdf_format.specs.declared.EmdfPayloadConfig.{EmdfPayloadConfig}
-use Rattle.emdf_format.specs.declared.EmdfPayloadBitTrace.{EmdfPayloadBitTrace}
-use Rattle.emdf_format.specs.declared.PayloadRecord.{PayloadRecord}
+use Rattle.emdf_format.specs.Syntax.{syncword}
 use Rattle.emdf_format.specs.Contents.{Payload, Contents, hasAligned, isOne, hasPriority, protectionLength}
 use Rattle.emdf_format.specs.Reader.{Read, got, refused, Reader, _>>=_, give, ask, choose, position, remaining, bits, variableBits, extendedValue, octets, present, flagged}
 
@@ -164,7 +161,7 @@ reading s =
     let d : ℕ = bitsValue s 16 16 in
     if ltb (length s) 4
     then refusal (TruncatedContainer 4 (length s))
-    else (if not (eqb sync 0x5838)
+    else (if not (eqb sync syncword)
     then refusal (InvalidSyncword sync)
     else (if ltb (length s - 4) d
     then refusal (TruncatedContainer d (length s - 4))

@@ -4,11 +4,19 @@ use Prim.Native.Nat.{ℕ, zero, suc, _+_, _-_, _*_, _/_, _%_, _^_}
 use lib.Dec.{ltb}
 use Rattle.openjoc_bitio.specs.Choice.{if_then_else_}
 use Rattle.openjoc_bitio.specs.Bits.{numberBits}
-use Rattle.emdf_format.specs.declared.Optional.{Optional}
+use Rattle.emdf_format.specs.Types.{Optional}
 use Rattle.emdf_format.specs.declared.Optional.the-variants.{Absent, Present}
 
+-- the first 16 bits of a carrier
+abbrev pub syncword : ℕ
+syncword = 0x5838
+
+-- the most bytes that a container declares, in 16 bits
+abbrev pub mostDeclared : ℕ
+mostDeclared = 65535
+
 infixr 65 _⨟_
--- some bits and then others
+-- some bits and then others; not the library's _++_, so that proofs open it where they choose
 unfoldable pub _⨟_ : List ℕ → List ℕ → List ℕ
 xs ⨟ ys = xs ++ ys
 

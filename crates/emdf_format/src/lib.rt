@@ -36,6 +36,20 @@ pub enum EmdfError {
     NonzeroPadding,
 }
 
+// A refusal's number in the scope, and its figures: none, one or two.
+pub enum Refusal {
+    Bare(u32),
+    One(u32, u64),
+    Two(u32, u64, u64),
+}
+
+// The same with zeros for the figures that it doesn't have. The number of what is accepted is 0.
+pub struct Figures {
+    pub number: u32,
+    pub first: u64,
+    pub second: u64,
+}
+
 // A setting that may be absent. Any number may stand in it: which are writable is a question.
 pub enum Optional {
     Absent,

@@ -1,24 +1,32 @@
 // What a C host calls: exported functions on numbers and byte slices. docs/HOST.md has each byte form.
 ghost use mathlib.Core.Path.{_≡_};
-ghost use lib.ListN.{length};
-ghost use Rattle.emdf_format.specs.Reading.{reading};
-ghost use Rattle.emdf_format.specs.Calls.{classify, moveBody, foundAt, scratchAfter};
+ghost use Rattle.emdf_format.specs.Calls.{classify};
 ghost use Rattle.emdf_format.specs.Profile.{verdict};
 ghost use Rattle.emdf_format.specs.Edits.{bodyEdit, settingsEdit, dropEdit, insertEdit, keyEdit, protectionEdit, edited, blank};
 ghost use Rattle.openjoc_emdf.specs.Answers.{classAnswer};
-ghost use Rattle.emdf_answers.specs.Form.{words};
-ghost use Rattle.emdf_answers.specs.Bits.{replyBytes, newReply, remainingReply, readBitsReply, readBitReply, takeBitsReply, byteAlignReply};
+ghost use Rattle.emdf_answers.specs.Form.{version};
+ghost use Rattle.emdf_answers.specs.Bits.{BitReplies, newReply, remainingReply, readBitsReply, readBitReply, takeBitsReply, byteAlignReply};
 ghost use Rattle.emdf_answers.specs.Fields.{variableBitsReply};
-ghost use Rattle.emdf_answers.specs.Carriers.{readInto, readNumber, readWords, rowsAfter, classNumber, classWords, moveNumber, moveWords};
-ghost use Rattle.emdf_answers.specs.Verdict.{profileOf, verdictNumber, verdictWords};
+ghost use Rattle.emdf_answers.specs.Replies.{Replies};
+ghost use Rattle.emdf_answers.specs.Carriers.{readInto, ReadReplies, classReply, MoveReplies};
+ghost use Rattle.emdf_answers.specs.Verdict.{profileOf, verdictReply};
+ghost use Rattle.emdf_answers.specs.Edits.{EditReplies};
 ghost use Rattle.emdf_settings_bytes.specs.Settings.{settingsOf};
-ghost use Rattle.emdf_answers.specs.Edits.{editedNumber, editedWords};
+use emdf_format::RecordsError;
 use openjoc_bitio::BitCursor;
 use openjoc_emdf::OpenAnswer;
 
+// The version of what the calls take and answer; include/emdf.h has the same number.
+#[no_mangle]
+pub extern "C" fn emdf_version() -> u32
+    ensures { λ r. ⌜ r ≡ version ⌝ }
+{
+    1
+}
+
 #[no_mangle]
 pub extern "C" fn emdf_bit_cursor(bytes: &[u8], answer: &mut [u8; 48]) -> u32
-    ensures { λ r. ⌜ (r ≡ newReply (now (bytes .entry)) .number) × (now (answer .exit) ≡ replyBytes (newReply (now (bytes .entry)))) ⌝ }
+    ensures { λ r. ⌜ BitReplies (newReply (now (bytes .entry))) r (now (answer .exit)) ⌝ }
 {
     emdf_rows::put_reply(answer, emdf_answers::accepted_at(BitCursor::new(bytes), 0))
 }
@@ -30,7 +38,7 @@ pub extern "C" fn emdf_bits_remaining(
     end: usize,
     answer: &mut [u8; 48],
 ) -> u32
-    ensures { λ r. ⌜ (r ≡ remainingReply (now (bytes .entry)) position end .number) × (now (answer .exit) ≡ replyBytes (remainingReply (now (bytes .entry)) position end)) ⌝ }
+    ensures { λ r. ⌜ BitReplies (remainingReply (now (bytes .entry)) position end) r (now (answer .exit)) ⌝ }
 {
     let cursor = BitCursor { position, end };
     let remaining = cursor.bits_remaining(bytes);
@@ -45,7 +53,7 @@ pub extern "C" fn emdf_read_bits(
     width: u8,
     answer: &mut [u8; 48],
 ) -> u32
-    ensures { λ r. ⌜ (r ≡ readBitsReply (now (bytes .entry)) position end width .number) × (now (answer .exit) ≡ replyBytes (readBitsReply (now (bytes .entry)) position end width)) ⌝ }
+    ensures { λ r. ⌜ BitReplies (readBitsReply (now (bytes .entry)) position end width) r (now (answer .exit)) ⌝ }
 {
     let cursor = BitCursor { position, end };
     emdf_rows::put_reply(
@@ -61,7 +69,7 @@ pub extern "C" fn emdf_read_bit(
     end: usize,
     answer: &mut [u8; 48],
 ) -> u32
-    ensures { λ r. ⌜ (r ≡ readBitReply (now (bytes .entry)) position end .number) × (now (answer .exit) ≡ replyBytes (readBitReply (now (bytes .entry)) position end)) ⌝ }
+    ensures { λ r. ⌜ BitReplies (readBitReply (now (bytes .entry)) position end) r (now (answer .exit)) ⌝ }
 {
     let cursor = BitCursor { position, end };
     emdf_rows::put_reply(
@@ -78,7 +86,7 @@ pub extern "C" fn emdf_take_bits(
     count: usize,
     answer: &mut [u8; 48],
 ) -> u32
-    ensures { λ r. ⌜ (r ≡ takeBitsReply (now (bytes .entry)) position end count .number) × (now (answer .exit) ≡ replyBytes (takeBitsReply (now (bytes .entry)) position end count)) ⌝ }
+    ensures { λ r. ⌜ BitReplies (takeBitsReply (now (bytes .entry)) position end count) r (now (answer .exit)) ⌝ }
 {
     let cursor = BitCursor { position, end };
     emdf_rows::put_reply(
@@ -94,7 +102,7 @@ pub extern "C" fn emdf_byte_align(
     end: usize,
     answer: &mut [u8; 48],
 ) -> u32
-    ensures { λ r. ⌜ (r ≡ byteAlignReply (now (bytes .entry)) position end .number) × (now (answer .exit) ≡ replyBytes (byteAlignReply (now (bytes .entry)) position end)) ⌝ }
+    ensures { λ r. ⌜ BitReplies (byteAlignReply (now (bytes .entry)) position end) r (now (answer .exit)) ⌝ }
 {
     let cursor = BitCursor { position, end };
     emdf_rows::put_reply(
@@ -113,7 +121,7 @@ pub extern "C" fn emdf_variable_bits(
     limit: u8,
     answer: &mut [u8; 48],
 ) -> u32
-    ensures { λ r. ⌜ (r ≡ variableBitsReply (now (bytes .entry)) position end width limit .number) × (now (answer .exit) ≡ replyBytes (variableBitsReply (now (bytes .entry)) position end width limit)) ⌝ }
+    ensures { λ r. ⌜ BitReplies (variableBitsReply (now (bytes .entry)) position end width limit) r (now (answer .exit)) ⌝ }
 {
     let cursor = BitCursor { position, end };
     emdf_rows::put_reply(
@@ -125,7 +133,7 @@ pub extern "C" fn emdf_variable_bits(
 // What a range of bytes is.
 #[no_mangle]
 pub extern "C" fn emdf_classify(bytes: &[u8], answer: &mut [u8; 80]) -> u32
-    ensures { λ r. ⌜ (r ≡ classNumber (classAnswer (classify (now (bytes .entry))))) × (now (answer .exit) ≡ words (classWords (classAnswer (classify (now (bytes .entry)))))) ⌝ }
+    ensures { λ r. ⌜ Replies (classReply (classAnswer (classify (now (bytes .entry))))) r (now (answer .exit)) ⌝ }
 {
     let class = openjoc_emdf::classify_emdf_carrier(bytes);
     let values = emdf_answers::class_words(class);
@@ -136,7 +144,7 @@ pub extern "C" fn emdf_classify(bytes: &[u8], answer: &mut [u8; 80]) -> u32
 // Reads the carrier; a row of 216 bytes a payload goes into the table.
 #[no_mangle]
 pub extern "C" fn emdf_read(bytes: &[u8], table: &mut [u8], answer: &mut [u8; 72]) -> u32
-    ensures { λ r. ⌜ (r ≡ readNumber (readInto (now (bytes .entry)) (now (table .entry)))) × (now (answer .exit) ≡ words (readWords (readInto (now (bytes .entry)) (now (table .entry))))) × (now (table .exit) ≡ rowsAfter (readInto (now (bytes .entry)) (now (table .entry))) (now (table .entry))) ⌝ }
+    ensures { λ r. ⌜ ReadReplies (readInto (now (bytes .entry)) (now (table .entry))) r (now (answer .exit)) (now (table .entry)) (now (table .exit)) ⌝ }
 {
     let a = openjoc_emdf::open_carrier(bytes);
     match a {
@@ -145,14 +153,14 @@ pub extern "C" fn emdf_read(bytes: &[u8], table: &mut [u8], answer: &mut [u8; 72
             if table.len() / emdf_rows::ROW_BYTES < count {
                 return emdf_rows::put_refusal(
                     answer,
-                    emdf_answers::with_figures(13, count as u64, 0),
+                    RecordsError::TableTooShort { payloads: count },
                 );
             }
             let n = parsed.bytes_consumed.0;
             emdf_rows::put_rows(table, &bytes[..n], first, count);
             emdf_rows::put_nine(answer, 0, emdf_answers::parsed_words(parsed))
         }
-        OpenAnswer::Refused(why) => emdf_rows::put_refusal(answer, emdf_answers::emdf_figures(why)),
+        OpenAnswer::Refused(why) => emdf_rows::put_refusal(answer, RecordsError::Emdf(why)),
     }
 }
 
@@ -164,7 +172,7 @@ pub extern "C" fn emdf_move_body(
     scratch: &mut [u8],
     answer: &mut [u8; 16],
 ) -> u32
-    ensures { λ r. ⌜ (r ≡ moveNumber (moveBody (reading (now (bytes .entry))) place (length (now (scratch .entry))))) × (now (answer .exit) ≡ words (moveWords (moveBody (reading (now (bytes .entry))) place (length (now (scratch .entry)))))) × (now (scratch .exit) ≡ scratchAfter (foundAt (reading (now (bytes .entry))) place) (now (scratch .entry))) ⌝ }
+    ensures { λ r. ⌜ MoveReplies (now (bytes .entry)) place (now (scratch .entry)) r (now (answer .exit)) (now (scratch .exit)) ⌝ }
 {
     let moved = emdf_bodies::move_body(bytes, place, scratch);
     emdf_rows::put_moved(answer, moved)
@@ -173,7 +181,7 @@ pub extern "C" fn emdf_move_body(
 // The verdict on the carrier: profile 0 is strict, any other number compat.
 #[no_mangle]
 pub extern "C" fn emdf_verdict(bytes: &[u8], profile: u32, answer: &mut [u8; 32]) -> u32
-    ensures { λ r. ⌜ (r ≡ verdictNumber (verdict (profileOf profile) (now (bytes .entry)))) × (now (answer .exit) ≡ words (verdictWords (verdict (profileOf profile) (now (bytes .entry))))) ⌝ }
+    ensures { λ r. ⌜ Replies (verdictReply (verdict (profileOf profile) (now (bytes .entry)))) r (now (answer .exit)) ⌝ }
 {
     let judged = joc_profile::validate_joc_profile_for(bytes, emdf_answers::profile_of(profile));
     let values = emdf_answers::verdict_words(judged);
@@ -190,7 +198,7 @@ pub extern "C" fn emdf_edit_body(
     destination: &mut [u8],
     answer: &mut [u8; 16],
 ) -> u32
-    ensures { λ r. ⌜ (r ≡ editedNumber (edited (bodyEdit place (now (body .entry))) (now (source .entry)) (now (destination .entry)) .answer)) × (now (answer .exit) ≡ words (editedWords (edited (bodyEdit place (now (body .entry))) (now (source .entry)) (now (destination .entry)) .answer))) × (now (destination .exit) ≡ edited (bodyEdit place (now (body .entry))) (now (source .entry)) (now (destination .entry)) .destination) ⌝ }
+    ensures { λ r. ⌜ EditReplies (edited (bodyEdit place (now (body .entry))) (now (source .entry)) (now (destination .entry))) r (now (answer .exit)) (now (destination .exit)) ⌝ }
 {
     let edited = emdf_edit::replace_body(source, place, body, destination);
     emdf_rows::put_edited(answer, edited)
@@ -205,7 +213,7 @@ pub extern "C" fn emdf_edit_settings(
     destination: &mut [u8],
     answer: &mut [u8; 16],
 ) -> u32
-    ensures { λ r. ⌜ (r ≡ editedNumber (edited (settingsEdit place (settingsOf (now (settings .entry)))) (now (source .entry)) (now (destination .entry)) .answer)) × (now (answer .exit) ≡ words (editedWords (edited (settingsEdit place (settingsOf (now (settings .entry)))) (now (source .entry)) (now (destination .entry)) .answer))) × (now (destination .exit) ≡ edited (settingsEdit place (settingsOf (now (settings .entry)))) (now (source .entry)) (now (destination .entry)) .destination) ⌝ }
+    ensures { λ r. ⌜ EditReplies (edited (settingsEdit place (settingsOf (now (settings .entry)))) (now (source .entry)) (now (destination .entry))) r (now (answer .exit)) (now (destination .exit)) ⌝ }
 {
     let config = emdf_settings_bytes::settings_of(settings);
     let edited = emdf_edit::replace_settings(source, place, config, destination);
@@ -220,7 +228,7 @@ pub extern "C" fn emdf_edit_drop(
     destination: &mut [u8],
     answer: &mut [u8; 16],
 ) -> u32
-    ensures { λ r. ⌜ (r ≡ editedNumber (edited (dropEdit place) (now (source .entry)) (now (destination .entry)) .answer)) × (now (answer .exit) ≡ words (editedWords (edited (dropEdit place) (now (source .entry)) (now (destination .entry)) .answer))) × (now (destination .exit) ≡ edited (dropEdit place) (now (source .entry)) (now (destination .entry)) .destination) ⌝ }
+    ensures { λ r. ⌜ EditReplies (edited (dropEdit place) (now (source .entry)) (now (destination .entry))) r (now (answer .exit)) (now (destination .exit)) ⌝ }
 {
     let edited = emdf_edit::drop_payload(source, place, destination);
     emdf_rows::put_edited(answer, edited)
@@ -237,7 +245,7 @@ pub extern "C" fn emdf_edit_insert(
     destination: &mut [u8],
     answer: &mut [u8; 16],
 ) -> u32
-    ensures { λ r. ⌜ (r ≡ editedNumber (edited (insertEdit place id (settingsOf (now (settings .entry))) (now (body .entry))) (now (source .entry)) (now (destination .entry)) .answer)) × (now (answer .exit) ≡ words (editedWords (edited (insertEdit place id (settingsOf (now (settings .entry))) (now (body .entry))) (now (source .entry)) (now (destination .entry)) .answer))) × (now (destination .exit) ≡ edited (insertEdit place id (settingsOf (now (settings .entry))) (now (body .entry))) (now (source .entry)) (now (destination .entry)) .destination) ⌝ }
+    ensures { λ r. ⌜ EditReplies (edited (insertEdit place id (settingsOf (now (settings .entry))) (now (body .entry))) (now (source .entry)) (now (destination .entry))) r (now (answer .exit)) (now (destination .exit)) ⌝ }
 {
     let config = emdf_settings_bytes::settings_of(settings);
     let edited = emdf_edit::insert_payload(source, place, id, config, body, destination);
@@ -252,7 +260,7 @@ pub extern "C" fn emdf_edit_key(
     destination: &mut [u8],
     answer: &mut [u8; 16],
 ) -> u32
-    ensures { λ r. ⌜ (r ≡ editedNumber (edited (keyEdit key) (now (source .entry)) (now (destination .entry)) .answer)) × (now (answer .exit) ≡ words (editedWords (edited (keyEdit key) (now (source .entry)) (now (destination .entry)) .answer))) × (now (destination .exit) ≡ edited (keyEdit key) (now (source .entry)) (now (destination .entry)) .destination) ⌝ }
+    ensures { λ r. ⌜ EditReplies (edited (keyEdit key) (now (source .entry)) (now (destination .entry))) r (now (answer .exit)) (now (destination .exit)) ⌝ }
 {
     let edited = emdf_edit::replace_key(source, key, destination);
     emdf_rows::put_edited(answer, edited)
@@ -267,7 +275,7 @@ pub extern "C" fn emdf_edit_protection(
     destination: &mut [u8],
     answer: &mut [u8; 16],
 ) -> u32
-    ensures { λ r. ⌜ (r ≡ editedNumber (edited (protectionEdit (now (primary .entry)) (now (secondary .entry))) (now (source .entry)) (now (destination .entry)) .answer)) × (now (answer .exit) ≡ words (editedWords (edited (protectionEdit (now (primary .entry)) (now (secondary .entry))) (now (source .entry)) (now (destination .entry)) .answer))) × (now (destination .exit) ≡ edited (protectionEdit (now (primary .entry)) (now (secondary .entry))) (now (source .entry)) (now (destination .entry)) .destination) ⌝ }
+    ensures { λ r. ⌜ EditReplies (edited (protectionEdit (now (primary .entry)) (now (secondary .entry))) (now (source .entry)) (now (destination .entry))) r (now (answer .exit)) (now (destination .exit)) ⌝ }
 {
     let edited = emdf_edit::replace_protection(source, primary, secondary, destination);
     emdf_rows::put_edited(answer, edited)
@@ -282,7 +290,7 @@ pub extern "C" fn emdf_blank(
     destination: &mut [u8],
     answer: &mut [u8; 16],
 ) -> u32
-    ensures { λ r. ⌜ (r ≡ editedNumber (blank key (now (primary .entry)) (now (secondary .entry)) (now (destination .entry)) .answer)) × (now (answer .exit) ≡ words (editedWords (blank key (now (primary .entry)) (now (secondary .entry)) (now (destination .entry)) .answer))) × (now (destination .exit) ≡ blank key (now (primary .entry)) (now (secondary .entry)) (now (destination .entry)) .destination) ⌝ }
+    ensures { λ r. ⌜ EditReplies (blank key (now (primary .entry)) (now (secondary .entry)) (now (destination .entry))) r (now (answer .exit)) (now (destination .exit)) ⌝ }
 {
     let edited = emdf_blank::blank_carrier(key, primary, secondary, destination);
     emdf_rows::put_edited(answer, edited)

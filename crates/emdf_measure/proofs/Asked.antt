@@ -9,7 +9,7 @@ use lib.Pow.{shr-le}
 use lib.Dec.{ltb}
 use Rattle.openjoc_bitio.specs.Choice.{if_then_else_}
 use Rattle.emdf_format.specs.Syntax.{capacity, countBefore, groups, escape}
-use Rattle.emdf_format.specs.Contents.{_&_, iff, ruled, extensionBits}
+use Rattle.emdf_format.specs.Contents.{_&_, iff, presentAsRuled, extensionBits}
 use Rattle.emdf_format.specs.declared.Optional.{Optional}
 use Rattle.emdf_format.proofs.Variable.{groups-least}
 
@@ -34,7 +34,7 @@ iff-no true h = sym h
 iff-no false h = rw h
 
 -- a setting whose presence was computed
-pub ruled-by : {r a b : Bool} (n : ℕ) (o : Optional) → r ≡ ruled a n o → a ≡ b → r ≡ ruled b n o
+pub ruled-by : {r a b : Bool} (n : ℕ) (o : Optional) → r ≡ presentAsRuled a n o → a ≡ b → r ≡ presentAsRuled b n o
 ruled-by n o h e = rw e at h
 
 -- ---- groups

@@ -4,17 +4,17 @@ use mathlib.Core.List.{List}
 use Prim.Native.Nat.{ℕ, _+_}
 use lib.ListN.{length}
 use lib.Dec.{eqb}
-use Rattle.emdf_format.specs.Contents.{_&_, codable, isOne, hasAligned, hasPriority, ruled, presentBits}
+use Rattle.emdf_format.specs.Contents.{_&_, codable, isOne, hasAligned, hasPriority, presentAsRuled, presentBits}
 use Rattle.emdf_format.specs.declared.EmdfPayloadConfig.{EmdfPayloadConfig}
 
 -- the settings after discard
 unfoldable pub writableControls : EmdfPayloadConfig → Bool
 writableControls t =
-    ruled (hasAligned (t .«discard_unknown_payload») (t .«sample_offset»)) 1 (t .«payload_frame_aligned»)
-    & ruled (isOne (t .«payload_frame_aligned»)) 1 (t .«create_duplicate»)
-    & ruled (isOne (t .«payload_frame_aligned»)) 1 (t .«remove_duplicate»)
-    & ruled (hasPriority (t .«discard_unknown_payload») (t .«sample_offset») (t .«payload_frame_aligned»)) 31 (t .priority)
-    & ruled (hasPriority (t .«discard_unknown_payload») (t .«sample_offset») (t .«payload_frame_aligned»)) 3 (t .«processing_allowed»)
+    presentAsRuled (hasAligned (t .«discard_unknown_payload») (t .«sample_offset»)) 1 (t .«payload_frame_aligned»)
+    & presentAsRuled (isOne (t .«payload_frame_aligned»)) 1 (t .«create_duplicate»)
+    & presentAsRuled (isOne (t .«payload_frame_aligned»)) 1 (t .«remove_duplicate»)
+    & presentAsRuled (hasPriority (t .«discard_unknown_payload») (t .«sample_offset») (t .«payload_frame_aligned»)) 31 (t .priority)
+    & presentAsRuled (hasPriority (t .«discard_unknown_payload») (t .«sample_offset») (t .«payload_frame_aligned»)) 3 (t .«processing_allowed»)
 
 unfoldable pub controlBits : EmdfPayloadConfig → ℕ
 controlBits t =

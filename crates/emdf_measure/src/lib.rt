@@ -3,7 +3,7 @@ ghost use mathlib.Core.Path.{_≡_};
 ghost use Prim.Native.Nat.{_+_, _*_, _≤_, _<_};
 ghost use lib.Dec.{leb};
 ghost use Rattle.emdf_format.specs.Syntax.{groups};
-ghost use Rattle.emdf_format.specs.Contents.{whenPresent, upTo, ruled, writableConfig, protectionCode, codable, extensionBits, flaggedBits, presentBits, neededConfig};
+ghost use Rattle.emdf_format.specs.Contents.{whenPresent, upTo, presentAsRuled, writableConfig, protectionCode, codable, extensionBits, flaggedBits, presentBits, neededConfig};
 ghost use Rattle.emdf_measure.specs.Parts.{writableControls, controlBits, writableProtection};
 use emdf_format::EmdfPayloadConfig;
 use emdf_format::Optional;
@@ -50,25 +50,25 @@ fn writable_controls(t: EmdfPayloadConfig) -> bool
     let remove = t.remove_duplicate;
     let priority = t.priority;
     let processing = t.processing_allowed;
-    if !is_ruled(emdf_settings::has_aligned(discard, offset), 1, aligned) {
+    if !present_as_ruled(emdf_settings::has_aligned(discard, offset), 1, aligned) {
         return false;
     }
-    if !is_ruled(emdf_settings::is_one(aligned), 1, create) {
+    if !present_as_ruled(emdf_settings::is_one(aligned), 1, create) {
         return false;
     }
-    if !is_ruled(emdf_settings::is_one(aligned), 1, remove) {
+    if !present_as_ruled(emdf_settings::is_one(aligned), 1, remove) {
         return false;
     }
     let ranked = emdf_settings::has_priority(discard, offset, aligned);
-    if !is_ruled(ranked, 31, priority) {
+    if !present_as_ruled(ranked, 31, priority) {
         return false;
     }
-    is_ruled(ranked, 3, processing)
+    present_as_ruled(ranked, 3, processing)
 }
 
 // There exactly where the rule wants it, and then at most n.
-fn is_ruled(there: bool, n: u64, o: Optional) -> bool
-    ensures { λ r. ⌜ r ≡ ruled there n o ⌝ }
+fn present_as_ruled(there: bool, n: u64, o: Optional) -> bool
+    ensures { λ r. ⌜ r ≡ presentAsRuled there n o ⌝ }
 {
     if !at_most(o, n) {
         return false;

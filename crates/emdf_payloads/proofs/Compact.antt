@@ -21,7 +21,7 @@ use Rattle.emdf_fields.specs.Word.{top}
 use Rattle.emdf_compact.specs.Words.{compactSettings, compactConfig, configLength, headLength, sizeLength, sizeValue}
 use Rattle.emdf_fields.proofs.Word.{Word, word-window, word-after}
 use Rattle.emdf_compact.proofs.Compact.{config-found, id-found, size-found, head-end, head-of, head-most, size-most, value-most}
-use Rattle.emdf_payloads.specs.Payloads.{nextPayload, turnFound, turnAnswer, stepAt}
+use Rattle.emdf_payloads.specs.Payloads.{nextPayload, nextStep, nextAnswer, stepAt}
 use Rattle.emdf_payloads.specs.Compact.{notCompact, compactParts, compactRecord, compactStep}
 use Rattle.emdf_payloads.specs.declared.CompactPayload.{CompactPayload}
 use Rattle.emdf_payloads.specs.declared.PayloadStep.the-variants as PayloadStep
@@ -70,9 +70,9 @@ module _ (s : List ℕ) (c : BitCursor) where
   there k h l = omega (arith, remaining-limit s e p)
 
   compact-end : eqb (top 5 x) 0 ≡ true → 5 ≤ bitsRemaining s c → stepAt s c ≡ PayloadStep.End (cursorAt e (p + 5))
-  unfolding nextPayload turnAnswer turnFound
+  unfolding nextPayload nextAnswer nextStep
   compact-end z l =
-      ap (turnAnswer e)
+      ap (nextAnswer e)
       (bind-go position _ (at-go s e p)
       (bind-go (extendedValue 5) _ (id-found (word-window s p) (lit≤ tt) e (lit≤ tt) (rw (eqb→eq (top 5 x) 0 (T-of z))) (there 5 (omega arith) l))
       (choose-this _ _ _ (T-of z) (give-go s e refl refl))))
@@ -82,12 +82,12 @@ module _ (s : List ℕ) (c : BitCursor) where
   payload = record { word = x; head = headLength x; size = sizeLength y; length = n }
 
   compact-found : eqb (top 5 x) 0 ≡ false → 0 < headLength x → 0 < sizeLength y → n ≤ bitsRemaining s c → stepAt s c ≡ PayloadStep.Payload (compactRecord payload p) (cursorAt e (p + n))
-  unfolding nextPayload turnAnswer turnFound
+  unfolding nextPayload nextAnswer nextStep
   compact-found z h k l =
       let d = head-of x z h in
       let m : p + n ≤ bitLimit s e = there n (omega (arith, h)) l in
       let w = word-after 5 (lit≤ tt) (lit≤ tt) (word-window s p) in
-      ap (turnAnswer e)
+      ap (nextAnswer e)
       (bind-go position _ (at-go s e p)
       (bind-go (extendedValue 5) _ (id-found (word-window s p) (lit≤ tt) e (lit≤ tt) (d .low) (omega (arith, m, d .length)))
       (choose-that _ _ _ (T-not-of z)

@@ -16,7 +16,7 @@ use Rattle.emdf_format.proofs.Payloads.{at-inv, id-law}
 use Rattle.emdf_format.proofs.Lengths.{length-extended}
 use Rattle.emdf_format.proofs.Loops.{payloads-enough, after-moves, id-moves}
 use Rattle.emdf_fields.specs.Fields.{countAnswer}
-use Rattle.emdf_payloads.specs.Payloads.{Turn, ended, found, nextPayload, turnFound, turnAnswer}
+use Rattle.emdf_payloads.specs.Payloads.{NextPayload, ended, found, nextPayload, nextStep, nextAnswer}
 use Rattle.emdf_payloads.specs.declared.PayloadStep.the-variants as PayloadStep
 use Rattle.emdf_fields.specs.declared.CountAnswer.{CountAnswer}
 use Rattle.emdf_fields.specs.declared.CountAnswer.the-variants as CountAnswer
@@ -24,14 +24,14 @@ use Rattle.emdf_fields.proofs.Answers.{Found}
 
 -- ---- what a turn's answer says
 
-ended-is : {e : ℕ} (y : Read Turn) {c : BitCursor} → turnAnswer e y ≡ PayloadStep.End c → Found y e ended c
-unfolding turnAnswer turnFound
+ended-is : {e : ℕ} (y : Read NextPayload) {c : BitCursor} → nextAnswer e y ≡ PayloadStep.End c → Found y e ended c
+unfolding nextAnswer nextStep
 ended-is {e} (got ended q) {c} h = let b : cursorAt e q ≡ c = cc in record { is = rw (← b); end = rw (← b) }
 ended-is (got (found x) q) h = absurd (let w : _≡_ {A = ℕ} 0 1 = cc in omega arith)
 ended-is (refused why q) h = absurd (let w : _≡_ {A = ℕ} 0 1 = cc in omega arith)
 
-found-is : (e : ℕ) (y : Read Turn) {r : PayloadRecord} {c : BitCursor} → turnAnswer e y ≡ PayloadStep.Payload r c → (x : Payload) × (x .record-of ≡ r) × Found y e (found x) c
-unfolding turnAnswer turnFound
+found-is : (e : ℕ) (y : Read NextPayload) {r : PayloadRecord} {c : BitCursor} → nextAnswer e y ≡ PayloadStep.Payload r c → (x : Payload) × (x .record-of ≡ r) × Found y e (found x) c
+unfolding nextAnswer nextStep
 found-is e (got ended q) h = absurd (let w : _≡_ {A = ℕ} 0 1 = cc in omega arith)
 found-is e (got (found x) q) {r} {c} h =
     let a : x .record-of ≡ r = cc in
@@ -39,8 +39,8 @@ found-is e (got (found x) q) {r} {c} h =
     (x, a, record { is = rw (← b); end = rw (← b) })
 found-is e (refused why q) h = absurd (let w : _≡_ {A = ℕ} 0 1 = cc in omega arith)
 
-refused-is : (e : ℕ) (y : Read Turn) {why : EmdfError} → turnAnswer e y ≡ PayloadStep.Refused why → (q : ℕ) × (y ≡ refused why q)
-unfolding turnAnswer turnFound
+refused-is : (e : ℕ) (y : Read NextPayload) {why : EmdfError} → nextAnswer e y ≡ PayloadStep.Refused why → (q : ℕ) × (y ≡ refused why q)
+unfolding nextAnswer nextStep
 refused-is e (got ended q) h = absurd (let w : _≡_ {A = ℕ} 0 1 = cc in omega arith)
 refused-is e (got (found x) q) h = absurd (let w : _≡_ {A = ℕ} 0 1 = cc in omega arith)
 refused-is e (refused why′ q) {why} h = let a : why′ ≡ why = cc in (q, rw a)
@@ -64,7 +64,7 @@ moves s e p q x h =
 
 -- ---- the list is a turn, and then what it says
 
-unfoldable pub rest : ℕ → Turn → Reader (List Payload)
+unfoldable pub rest : ℕ → NextPayload → Reader (List Payload)
 rest n ended = give []
 rest n (found x) = payloads n >>= λ xs. give (x ∷ xs)
 
@@ -118,13 +118,13 @@ module _ (k : ℕ) (s : List ℕ) (at : BitCursor) where
       let l : bitLimit s e - p ≤ bitsRemaining s at = omega (arith, remaining-limit s e p) in
       payloads-enough (bitsRemaining s at) (suc (bitsRemaining s at)) s e p l (omega arith) ∙ payloads-turn (bitsRemaining s at) s e p
 
-  pub at-end : {c : BitCursor} → turnAnswer e (nextPayload s e p) ≡ PayloadStep.End c → CountAnswer.Counted k c ≡ left
+  pub at-end : {c : BitCursor} → nextAnswer e (nextPayload s e p) ≡ PayloadStep.End c → CountAnswer.Counted k c ≡ left
   unfolding countFrom rest give
   at-end h =
       let d = ended-is (nextPayload s e p) h in
       rw (enough, bind-go nextPayload (rest (bitsRemaining s at)) (d .is) refl, add-zero, ← d .end)
 
-  pub at-refused : {why : EmdfError} → turnAnswer e (nextPayload s e p) ≡ PayloadStep.Refused why → CountAnswer.Refused why ≡ left
+  pub at-refused : {why : EmdfError} → nextAnswer e (nextPayload s e p) ≡ PayloadStep.Refused why → CountAnswer.Refused why ≡ left
   unfolding countFrom
   at-refused h = let d = refused-is e (nextPayload s e p) h in rw (enough, bind-no nextPayload (rest (bitsRemaining s at)) (d .1))
 
@@ -133,7 +133,7 @@ module _ (k : ℕ) (s : List ℕ) (at : BitCursor) where
     pub moves : p < c .position
     pub less : bitsRemaining s c < bitsRemaining s at
 
-  pub at-payload : {r : PayloadRecord} {c : BitCursor} → turnAnswer e (nextPayload s e p) ≡ PayloadStep.Payload r c → More c
+  pub at-payload : {r : PayloadRecord} {c : BitCursor} → nextAnswer e (nextPayload s e p) ≡ PayloadStep.Payload r c → More c
   unfolding rest
   at-payload {r} {c} h =
       let (x, i, d) = found-is e (nextPayload s e p) h in

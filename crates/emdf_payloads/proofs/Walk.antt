@@ -9,7 +9,7 @@ use Rattle.emdf_format.specs.declared.EmdfError.{EmdfError}
 use Rattle.emdf_format.specs.declared.PayloadRecord.{PayloadRecord}
 use Rattle.emdf_format.specs.Reading.{Found, payloads}
 use Rattle.emdf_format.proofs.Standing.{taken, bind-inv, ask-inv, asked, give-inv}
-use Rattle.emdf_payloads.specs.Payloads.{Turn, ended, found, nextPayload, turnFound, turnAnswer, skipOf, Listed, stepAt}
+use Rattle.emdf_payloads.specs.Payloads.{NextPayload, ended, found, nextPayload, nextStep, nextAnswer, skipOf, Listed, stepAt}
 use Rattle.emdf_payloads.specs.declared.PayloadStep.{PayloadStep}
 use Rattle.emdf_payloads.specs.declared.PayloadStep.the-variants as PayloadStep
 use Rattle.emdf_payloads.specs.declared.SkipStep.the-variants as SkipStep
@@ -18,7 +18,7 @@ use Rattle.emdf_payloads.proofs.Turns.{rest, payloads-turn, moves}
 -- the payload x, and after it the payloads xs, from the cursor next on
 pub record Stepped (s : List ℕ) (c : BitCursor) (x : Found) (xs : List Found) : Type 0 where
   pub next : BitCursor
-  pub is : turnAnswer (c .end) (nextPayload s (c .end) (c .position)) ≡ PayloadStep.Payload (x .record-of) next
+  pub is : nextAnswer (c .end) (nextPayload s (c .end) (c .position)) ≡ PayloadStep.Payload (x .record-of) next
   pub end : next .end ≡ c .end
   pub listed : Listed s next xs
   pub moves : c .position < next .position
@@ -31,14 +31,14 @@ module _ (s : List ℕ) (c : BitCursor) where
   p = c .position
 
   pub listed-step : (x : Found) (xs : List Found) → Listed s c (x ∷ xs) → Stepped s c x xs
-  unfolding payloads rest turnAnswer turnFound
+  unfolding payloads rest nextAnswer nextStep
   listed-step x xs l = go (l .bound) (l .is)
     where
       go : (n : ℕ) → payloads n s e p ≡ got (x ∷ xs) (l .to) → Stepped s c x xs
       go zero h = asked (ask-inv h) λ f t. absurd f
       go (suc n) h = taken (bind-inv (sym (payloads-turn n s e p) ∙ h)) by-turn
         where
-          by-turn : (t : Turn) (q : ℕ) → nextPayload s e p ≡ got t q → rest n t s e q ≡ got (x ∷ xs) (l .to) → Stepped s c x xs
+          by-turn : (t : NextPayload) (q : ℕ) → nextPayload s e p ≡ got t q → rest n t s e q ≡ got (x ∷ xs) (l .to) → Stepped s c x xs
           by-turn ended q h₁ t₁ = absurd (let w : _≡_ {A = ℕ} 0 1 = cc (give-inv t₁ .what) in omega arith)
           by-turn (found y) q h₁ t₁ =
               taken (bind-inv t₁) λ ys q₂ h₂ t₂.
@@ -47,15 +47,15 @@ module _ (s : List ℕ) (c : BitCursor) where
               let b : ys ≡ xs = cc (d .what) in
               record { next = cursorAt e q; is = rw (h₁, a); end = refl; listed = record { bound = n; to = q₂; is = rw b at h₂ }; moves = moves s e p q y h₁ .0 }
 
-  pub listed-end : Listed s c [] → (next : BitCursor) × (turnAnswer e (nextPayload s e p) ≡ PayloadStep.End next)
-  unfolding payloads rest turnAnswer turnFound
+  pub listed-end : Listed s c [] → (next : BitCursor) × (nextAnswer e (nextPayload s e p) ≡ PayloadStep.End next)
+  unfolding payloads rest nextAnswer nextStep
   listed-end l = go (l .bound) (l .is)
     where
-      go : (n : ℕ) → payloads n s e p ≡ got [] (l .to) → (next : BitCursor) × (turnAnswer e (nextPayload s e p) ≡ PayloadStep.End next)
+      go : (n : ℕ) → payloads n s e p ≡ got [] (l .to) → (next : BitCursor) × (nextAnswer e (nextPayload s e p) ≡ PayloadStep.End next)
       go zero h = asked (ask-inv h) λ f t. absurd f
       go (suc n) h = taken (bind-inv (sym (payloads-turn n s e p) ∙ h)) by-turn
         where
-          by-turn : (t : Turn) (q : ℕ) → nextPayload s e p ≡ got t q → rest n t s e q ≡ got [] (l .to) → (next : BitCursor) × (turnAnswer e (nextPayload s e p) ≡ PayloadStep.End next)
+          by-turn : (t : NextPayload) (q : ℕ) → nextPayload s e p ≡ got t q → rest n t s e q ≡ got [] (l .to) → (next : BitCursor) × (nextAnswer e (nextPayload s e p) ≡ PayloadStep.End next)
           by-turn ended q h₁ t₁ = (cursorAt e q, rw h₁)
           by-turn (found y) q h₁ t₁ =
               taken (bind-inv t₁) λ ys q₂ h₂ t₂.

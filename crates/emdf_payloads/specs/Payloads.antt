@@ -16,27 +16,27 @@ payloadAnswer e (got x q) = PayloadStep.Payload (x .record-of) (cursorAt e q)
 payloadAnswer e (refused why q) = PayloadStep.Refused why
 
 -- what stands next in the list of payloads: one turn of emdf_format's payloads
-pub data Turn : Type 0 where
-  ended : Turn
-  found : Found → Turn
+pub data NextPayload : Type 0 where
+  ended : NextPayload
+  found : Found → NextPayload
 
-unfoldable pub nextPayload : Reader Turn
+unfoldable pub nextPayload : Reader NextPayload
 nextPayload = do
   p₀ ← position
   id ← extendedValue 5
   choose (eqb id 0) (give ended) (do x ← payloadAfter p₀ id; give (found x))
 
-unfoldable pub turnFound : Turn → ℕ → ℕ → PayloadStep
-turnFound ended e q = PayloadStep.End (cursorAt e q)
-turnFound (found x) e q = PayloadStep.Payload (x .record-of) (cursorAt e q)
+unfoldable pub nextStep : NextPayload → ℕ → ℕ → PayloadStep
+nextStep ended e q = PayloadStep.End (cursorAt e q)
+nextStep (found x) e q = PayloadStep.Payload (x .record-of) (cursorAt e q)
 
-unfoldable pub turnAnswer : ℕ → Read Turn → PayloadStep
-turnAnswer e (got t q) = turnFound t e q
-turnAnswer e (refused why q) = PayloadStep.Refused why
+unfoldable pub nextAnswer : ℕ → Read NextPayload → PayloadStep
+nextAnswer e (got t q) = nextStep t e q
+nextAnswer e (refused why q) = PayloadStep.Refused why
 
 -- what stands at a cursor
 abbrev pub stepAt : List ℕ → BitCursor → PayloadStep
-stepAt s c = turnAnswer (c .end) (nextPayload s (c .end) (c .position))
+stepAt s c = nextAnswer (c .end) (nextPayload s (c .end) (c .position))
 
 -- the same, of a payload only its id
 unfoldable pub skipOf : PayloadStep → SkipStep

@@ -8,7 +8,7 @@ ghost use Rattle.emdf_compact.specs.Words.{compactSettings, configLength};
 ghost use Rattle.openjoc_bitio.specs.Cursor.{bitsRemaining};
 ghost use Rattle.emdf_fields.specs.Fields.{countAnswer};
 ghost use Rattle.emdf_payloads.specs.Compact.{CompactAt, compactParts, notCompact, compactRecord};
-ghost use Rattle.emdf_payloads.specs.Payloads.{payloadAnswer, turnAnswer, nextPayload, skipOf};
+ghost use Rattle.emdf_payloads.specs.Payloads.{payloadAnswer, skipOf, stepAt};
 use emdf_fields::CountAnswer;
 use emdf_fields::FieldAnswer;
 use emdf_format::EmdfError;
@@ -134,7 +134,7 @@ pub fn bit_trace(
 
 // The next payload, or the end of the list.
 pub fn next_payload(s: &[u8], c: BitCursor) -> PayloadStep
-    ensures { λ r. ⌜ r ≡ turnAnswer (c .end) (nextPayload (now (s .entry)) (c .end) (c .position)) ⌝ }
+    ensures { λ r. ⌜ r ≡ stepAt (now (s .entry)) c ⌝ }
 {
     let position = c.position;
     let end = c.end;
@@ -154,7 +154,7 @@ pub fn next_payload(s: &[u8], c: BitCursor) -> PayloadStep
 
 // Past the next payload, for a caller who wants no record of it.
 pub fn skip_payload(s: &[u8], c: BitCursor) -> SkipStep
-    ensures { λ r. ⌜ r ≡ skipOf (turnAnswer (c .end) (nextPayload (now (s .entry)) (c .end) (c .position))) ⌝ }
+    ensures { λ r. ⌜ r ≡ skipOf (stepAt (now (s .entry)) c) ⌝ }
 {
     let position = c.position;
     let end = c.end;
@@ -251,7 +251,7 @@ pub fn compact_record(c: CompactPayload, position: usize) -> PayloadRecord
 
 // The next payload, or the end of the list, field by field.
 fn payload_by_fields(s: &[u8], c: BitCursor) -> PayloadStep
-    ensures { λ r. ⌜ r ≡ turnAnswer (c .end) (nextPayload (now (s .entry)) (c .end) (c .position)) ⌝ }
+    ensures { λ r. ⌜ r ≡ stepAt (now (s .entry)) c ⌝ }
 {
     let start = c.position;
     let a = emdf_fields::extended_value(s, c, 31, 5);

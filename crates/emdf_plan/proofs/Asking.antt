@@ -12,51 +12,46 @@ use Rattle.openjoc_bitio.proofs.Bits.{length-number}
 use Rattle.emdf_format.specs.declared.EmdfError.{EmdfError}
 use Rattle.emdf_format.specs.declared.EmdfPayloadConfig.{EmdfPayloadConfig}
 use Rattle.emdf_format.specs.declared.EditError.the-variants.{Emdf, TrailingData, NoSuchPlace, NotWritable, TooLong, DestinationTooShort}
-use Rattle.emdf_format.specs.Syntax.{groups, escape}
-use Rattle.emdf_format.specs.Contents.{Payload, Contents, _&_, writableConfig, writablePayload, writablePayloads, writable, extensionBits, neededPayload, declared, protectionBits}
+use Rattle.emdf_format.specs.Syntax.{mostDeclared}
+use Rattle.emdf_format.specs.Contents.{Payload, Contents, _&_, writableConfig, writablePayload, writablePayloads, writable, neededPayload, declared, protectionBits}
 use Rattle.emdf_format.specs.Reading.{Container, accepted, refusal, reading, payloadsOf, contentsOf}
-use Rattle.emdf_format.specs.Edits.{Edit, bodyEdit, settingsEdit, dropEdit, insertEdit, keyEdit, protectionEdit, withBody, withConfig, withPayloads, change, placeExists, Stepped, unchanged, inRoom, weighed, step, stepFrom}
+use Rattle.emdf_format.specs.Edits.{withAt, withBody, withConfig, withPayloads, change, placeExists, Stepped, unchanged, inRoom, stepTo, step, stepFrom}
 use Rattle.emdf_format.proofs.Standing.{is-true, both, length-then}
 use Rattle.emdf_format.proofs.Variable.{length-field}
 use Rattle.emdf_format.proofs.Payloads.{length-octets}
 use Rattle.emdf_format.proofs.Lengths.{length-extended, length-config, length-payload, length-container}
 use Rattle.emdf_format.proofs.Carrier.{read-contained}
 use Rattle.emdf_measure.specs.Parts.{writableProtection}
-use Rattle.emdf_measure.proofs.Asked.{groups-few, bits-few}
 use Rattle.emdf_plan.specs.declared.Request.{Request}
 use Rattle.emdf_plan.specs.declared.Request.the-variants as Request
 use Rattle.emdf_plan.specs.declared.Layout.{Layout}
-use Rattle.emdf_plan.specs.declared.Run.{Run}
+use Rattle.emdf_plan.specs.declared.Stretch.{Stretch}
+use Rattle.emdf_plan.specs.declared.Brought.{Brought}
 use Rattle.emdf_plan.specs.declared.Plan.the-variants.{Splice, Refused}
-use Rattle.emdf_plan.specs.Plan.{editOf, placeOf, writableEdit, newBits, fieldBits, octetCount, layoutOf, runOf, cutAt, planned, planFrom, planOf, measure}
+use Rattle.emdf_plan.specs.Plan.{editOf, stretchOf, bringing, newBits, layoutOf, CutIn, cutAt, planned, laid, planFrom, planOf, sizeAfter, measure}
 use Rattle.emdf_plan.proofs.Cutting.{Cutting, splice-lengths, as-many, cutting}
 use Rattle.emdf_plan.proofs.Opening.{end-limit}
 
--- ---- what of an edit does not depend on the octets that it brings
+-- ---- the place
 
-pub record Same (q : Request) (a b : List ℕ) : Type 0 where
-  pub exists : (n : ℕ) → placeExists (editOf q [] []) n ≡ placeExists (editOf q a b) n
-  pub place : placeOf (editOf q [] []) ≡ placeOf (editOf q a b)
-  pub run : (l : Layout) → runOf (editOf q [] []) l ≡ runOf (editOf q a b) l
-  pub fields : fieldBits (editOf q a []) ≡ fieldBits (editOf q a b)
+-- the octets that a request brings have no part in it
+pub same-place : (q : Request) (a b : List ℕ) (n : ℕ) → placeExists (editOf q [] []) n ≡ placeExists (editOf q a b) n
+unfolding editOf placeExists
+same-place (Request.Body k) a b n = refl
+same-place (Request.Settings k t) a b n = refl
+same-place (Request.Drop k) a b n = refl
+same-place (Request.Insert k i t) a b n = refl
+same-place (Request.Key i) a b n = refl
+same-place Request.Protection a b n = refl
 
-pub same : (q : Request) (a b : List ℕ) → Same q a b
-unfolding editOf placeExists placeOf runOf fieldBits
-same (Request.Body k) a b = record { exists = λ n. refl; place = refl; run = λ l. refl; fields = refl }
-same (Request.Settings k t) a b = record { exists = λ n. refl; place = refl; run = λ l. refl; fields = refl }
-same (Request.Drop k) a b = record { exists = λ n. refl; place = refl; run = λ l. refl; fields = refl }
-same (Request.Insert k i t) a b = record { exists = λ n. refl; place = refl; run = λ l. refl; fields = refl }
-same (Request.Key i) a b = record { exists = λ n. refl; place = refl; run = λ l. refl; fields = refl }
-same Request.Protection a b = record { exists = λ n. refl; place = refl; run = λ l. refl; fields = refl }
-
-pub place-in : (e : Edit) (n : ℕ) → placeExists e n ≡ true → placeOf e ≤ n
-unfolding placeExists placeOf
-place-in (bodyEdit k bs) n h = omega (arith, ltb-true k n h)
-place-in (settingsEdit k t) n h = omega (arith, ltb-true k n h)
-place-in (dropEdit k) n h = omega (arith, ltb-true k n h)
-place-in (insertEdit k i t bs) n h = leb-true k n h
-place-in (keyEdit i) n h = omega arith
-place-in (protectionEdit a b) n h = omega arith
+pub place-in : (q : Request) (a b : List ℕ) (n : ℕ) → placeExists (editOf q a b) n ≡ true → stretchOf q .place ≤ n
+unfolding editOf placeExists
+place-in (Request.Body k) a b n h = omega (arith, ltb-true k n h)
+place-in (Request.Settings k t) a b n h = omega (arith, ltb-true k n h)
+place-in (Request.Drop k) a b n h = omega (arith, ltb-true k n h)
+place-in (Request.Insert k i t) a b n h = leb-true k n h
+place-in (Request.Key i) a b n h = omega arith
+place-in Request.Protection a b n h = omega arith
 
 -- ---- what is writable stays so, but for what the edit brings
 
@@ -70,17 +65,22 @@ unfolding _&_
 and-yes true b h = is-true b h
 and-yes false b h = refl
 
-body-writable : (k : ℕ) (bs : List ℕ) (xs : List Payload) → writablePayloads (withBody k bs xs) ≡ writablePayloads xs
-unfolding writablePayloads writablePayload withBody
-body-writable k bs [] = refl
-body-writable zero bs (x ∷ xs) = refl
-body-writable (suc k) bs (x ∷ xs) = rw (body-writable k bs xs)
+-- where the payload at place k becomes f of it
+at-writable : (k : ℕ) (f : Payload → Payload) (w : Bool) (xs : List Payload) → ((x : Payload) → T (writablePayload x) → writablePayload (f x) ≡ w)
+    → T (writablePayloads xs) → k < length xs → writablePayloads (withAt k f xs) ≡ w
+unfolding writablePayloads withAt
+at-writable k f w [] g h l = absurd (omega arith)
+at-writable zero f w (x ∷ xs) g h l = and-yes _ _ (both h .right) ∙ g x (both h .left)
+at-writable (suc k) f w (x ∷ xs) g h l = yes-and _ _ (both h .left) ∙ at-writable k f w xs g (both h .right) (omega arith)
 
-settings-writable : (k : ℕ) (t : EmdfPayloadConfig) (xs : List Payload) → T (writablePayloads xs) → k < length xs → writablePayloads (withConfig k t xs) ≡ writableConfig t
-unfolding writablePayloads writablePayload withConfig
-settings-writable k t [] h l = absurd (omega arith)
-settings-writable zero t (x ∷ xs) h l = let i = both (both h .left) in and-yes _ _ (both h .right) ∙ yes-and _ _ (i .left) ∙ yes-and _ _ (both (i .right) .left)
-settings-writable (suc k) t (x ∷ xs) h l = yes-and _ _ (both h .left) ∙ settings-writable k t xs (both h .right) (omega arith)
+-- question 17 of a payload is one of its id and settings
+body-writable : (bs : List ℕ) (x : Payload) → T (writablePayload x) → writablePayload (withBody bs x) ≡ true
+unfolding writablePayload
+body-writable bs x h = is-true _ h
+
+settings-writable : (t : EmdfPayloadConfig) (x : Payload) → T (writablePayload x) → writablePayload (withConfig t x) ≡ writableConfig t
+unfolding writablePayload
+settings-writable t x h = yes-and _ _ (both h .left) ∙ yes-and _ _ (both (both h .right) .left)
 
 drop-writable : (k : ℕ) (xs : List Payload) → T (writablePayloads xs) → writablePayloads (take k xs ++ drop (suc k) xs) ≡ true
 unfolding writablePayloads
@@ -104,75 +104,67 @@ module _ (c : Contents) (w : T (writable c)) where
   unfolding writable withPayloads
   with-writable xs = yes-and _ _ (both w .left) ∙ and-yes _ _ (both (both w .right) .right)
 
-  pub change-writable : (e : Edit) → placeExists e (length (c .payloads)) ≡ true → writable (change e c) ≡ writableEdit e
-  unfolding change placeExists writableEdit writableProtection writable
-  change-writable (bodyEdit k bs) h = with-writable _ ∙ body-writable k bs (c .payloads) ∙ is-true _ payloads-writable
-  change-writable (settingsEdit k t) h = with-writable _ ∙ settings-writable k t (c .payloads) payloads-writable (ltb-true k _ h)
-  change-writable (dropEdit k) h = with-writable _ ∙ drop-writable k (c .payloads) payloads-writable
-  change-writable (insertEdit k i t bs) h = with-writable _ ∙ insert-writable k _ (c .payloads) payloads-writable
-  change-writable (keyEdit i) h = and-yes _ _ (both w .right)
-  change-writable (protectionEdit a b) h = yes-and _ _ (both w .left) ∙ yes-and _ _ payloads-writable
+  pub change-writable : (q : Request) (a b : List ℕ) → placeExists (editOf q a b) (length (c .payloads)) ≡ true
+      → writable (change (editOf q a b) c) ≡ bringing q a b .brought .writable
+  unfolding editOf bringing change placeExists writableProtection writable
+  change-writable (Request.Body k) a b h = with-writable _ ∙ at-writable k (withBody a) true (c .payloads) (body-writable a) payloads-writable (ltb-true k _ h)
+  change-writable (Request.Settings k t) a b h = with-writable _ ∙ at-writable k (withConfig t) (writableConfig t) (c .payloads) (settings-writable t) payloads-writable (ltb-true k _ h)
+  change-writable (Request.Drop k) a b h = with-writable _ ∙ drop-writable k (c .payloads) payloads-writable
+  change-writable (Request.Insert k i t) a b h = with-writable _ ∙ insert-writable k _ (c .payloads) payloads-writable
+  change-writable (Request.Key i) a b h = and-yes _ _ (both w .right)
+  change-writable Request.Protection a b h = yes-and _ _ (both w .left) ∙ yes-and _ _ payloads-writable
 
--- ---- how many bits an edit brings
+-- ---- how many bits a request brings
 
-pub length-new : (e : Edit) → length (newBits e) ≡ fieldBits e + 8 * octetCount e
-unfolding newBits fieldBits octetCount neededPayload protectionBits
-length-new (bodyEdit k bs) = simp length-then (omega (arith, length-field 8 (length bs), length-octets bs))
-length-new (settingsEdit k t) = omega (arith, length-config t)
-length-new (dropEdit k) = refl
-length-new (insertEdit k i t bs) = omega (arith, length-payload (record { id = i; config = t; body = bs }))
-length-new (keyEdit i) = omega (arith, length-extended 3 i)
-length-new (protectionEdit a b) = simp (length-then, length-number) (omega (arith, length-octets a, length-octets b))
+pub length-new : (q : Request) (a b : List ℕ) → length (newBits q a b) ≡ bringing q a b .brought .fields + 8 * bringing q a b .brought .octets
+unfolding bringing neededPayload protectionBits
+length-new (Request.Body k) a b = simp length-then (omega (arith, length-field 8 (length a), length-octets a))
+length-new (Request.Settings k t) a b = omega (arith, length-config t)
+length-new (Request.Drop k) a b = refl
+length-new (Request.Insert k i t) a b = omega (arith, length-payload (record { id = i; config = t; body = a }))
+length-new (Request.Key i) a b = omega (arith, length-extended 3 i)
+length-new Request.Protection a b = simp (length-then, length-number) (omega (arith, length-octets a, length-octets b))
 
 -- ---- 18 and 19
 
-module _ (r : Run) (end bits room : ℕ) where
-  abbrev sized : ℕ → Type 0
-  sized n = n ≡ (end - 32 - (r .to .0 - r .from .0) + bits + 7) / 8
-
-  pub too-long : (n : ℕ) → sized n → 65535 < n → Refused TooLong ≡ measure r end bits room
+module _ (x : Stretch) (l : Layout) (b : Brought) (room : ℕ) where
+  pub too-long : (n : ℕ) → n ≡ sizeAfter x l b → mostDeclared < n → Refused TooLong ≡ measure x l b room
   unfolding measure
-  too-long n e h = rw (← e, lt-leb n 65535 h)
+  too-long n e h = rw (← e, lt-leb n mostDeclared h)
 
-  pub no-room : (n : ℕ) → sized n → n ≤ 65535 → room < 4 + n → Refused (DestinationTooShort (record { 0 = 4 + n })) ≡ measure r end bits room
+  pub no-room : (n : ℕ) → n ≡ sizeAfter x l b → n ≤ mostDeclared → room < 4 + n → Refused (DestinationTooShort (record { 0 = 4 + n })) ≡ measure x l b room
   unfolding measure
-  no-room n e h l = rw (← e, le-leb n 65535 h, lt-leb (4 + n) room l)
+  no-room n e h k = rw (← e, le-leb n mostDeclared h, lt-leb (4 + n) room k)
 
-  pub in-room : (n : ℕ) → sized n → n ≤ 65535 → 4 + n ≤ room → Splice (cutAt r end n) ≡ measure r end bits room
+  pub in-room : (n : ℕ) → n ≡ sizeAfter x l b → n ≤ mostDeclared → 4 + n ≤ room → Splice (cutAt x l n) ≡ measure x l b room
   unfolding measure
-  in-room n e h l = rw (← e, le-leb n 65535 h, le-leb (4 + n) room l)
+  in-room n e h k = rw (← e, le-leb n mostDeclared h, le-leb (4 + n) room k)
 
 -- ---- how long the edited container is
 
-abbrev laid : Edit → Container → Layout
-laid e k = layoutOf (placeOf e) k
+module _ (q : Request) (a b : List ℕ) (s : List ℕ) {n : ℕ} {k : Container} (h : reading s ≡ accepted n k) where
+  abbrev edited : Contents
+  edited = change (editOf q a b) (contentsOf k)
 
-abbrev run : Edit → Container → Run
-run e k = runOf e (laid e k)
+  module _ (there : placeExists (editOf q a b) (length (k .found)) ≡ true) where
+    cut : Cutting q a b k
+    cut = cutting s n k q a b h there
 
-abbrev edited : Edit → Container → Contents
-edited e k = change e (contentsOf k)
-
-module _ (e : Edit) (s : List ℕ) {n : ℕ} {k : Container} (h : reading s ≡ accepted n k) where
-  module _ (there : placeExists e (length (k .found)) ≡ true) where
-    cut : Cutting e k
-    cut = cutting s n k e h there
-
-    pub cut-in : (32 ≤ run e k .from .0) × (run e k .from .0 ≤ run e k .to .0) × (run e k .to .0 ≤ laid e k .end .0) × (laid e k .end .0 < 2 ^ 20)
+    pub cut-in : CutIn (stretchOf q) (laid q k)
     unfolding layoutOf
     cut-in = (omega (arith, cut .from), omega (arith, cut .to), omega (arith, cut .end), omega (arith, end-limit s n k h))
 
     -- the edited container's bits are those that are kept, and the new ones
-    declared-is : declared (edited e k) ≡ (laid e k .end .0 - 32 - (run e k .to .0 - run e k .from .0) + (fieldBits e + 8 * octetCount e) + 7) / 8
-    unfolding declared
+    declared-is : declared edited ≡ sizeAfter (stretchOf q) (laid q k) (bringing q a b .brought)
+    unfolding declared sizeAfter
     declared-is =
         let x = cut .splice in
         omega (
           arith,
           splice-lengths x,
           ap length (cut .new),
-          length-new e,
-          length-container (edited e k),
+          length-new q a b,
+          length-container edited,
           cut .from,
           cut .to,
           cut .end,
@@ -180,36 +172,42 @@ module _ (e : Edit) (s : List ℕ) {n : ℕ} {k : Container} (h : reading s ≡ 
 
 -- ---- the plan, by what is asked
 
-planned-if : (t : Bool) (x y : Stepped) (r : Run) (end : ℕ) → planned (if t then x else y) r end ≡ (if t then planned x r end else planned y r end)
-planned-if true x y r end = refl
-planned-if false x y r end = refl
+planned-if : (t : Bool) (o o′ : Stepped) (x : Stretch) (l : Layout) → planned (if t then o else o′) x l ≡ (if t then planned o x l else planned o′ x l)
+planned-if true o o′ x l = refl
+planned-if false o o′ x l = refl
 
-module _ (e : Edit) (s : List ℕ) (room : ℕ) where
-  pub unread : {why : EmdfError} → reading s ≡ refusal why → Refused (Emdf why) ≡ planOf e s room
+module _ (q : Request) (a b : List ℕ) (s : List ℕ) (room : ℕ) where
+  pub unread : {why : EmdfError} → reading s ≡ refusal why → Refused (Emdf why) ≡ planOf q a b s room
   unfolding planOf planFrom
   unread h = rw h
 
   module _ {n : ℕ} {k : Container} (h : reading s ≡ accepted n k) where
-    pub trailing : (n ≡ length s → ⊥) → Refused TrailingData ≡ planOf e s room
+    pub trailing : (n ≡ length s → ⊥) → Refused TrailingData ≡ planOf q a b s room
     unfolding planOf planFrom stepFrom planned
     trailing z = rw (h, ne-eqb n (length s) z)
 
     module _ (whole : n ≡ length s) where
-      pub no-place : placeExists e (length (k .found)) ≡ false → Refused NoSuchPlace ≡ planOf e s room
+      pub no-place : placeExists (editOf q a b) (length (k .found)) ≡ false → Refused NoSuchPlace ≡ planOf q a b s room
       unfolding planOf planFrom stepFrom step planned
       no-place p = rw (h, eq-eqb n (length s) whole, as-many, p)
 
-      module _ (there : placeExists e (length (k .found)) ≡ true) where
-        asked : planOf e s room ≡ planned (if writableEdit e then (if leb (declared (edited e k)) 65535 then inRoom room (edited e k) else unchanged TooLong) else unchanged NotWritable) (run e k) (laid e k .end .0)
-        unfolding planOf planFrom stepFrom step weighed
-        asked =
-            let p : placeExists e (length (payloadsOf (k .found))) ≡ true = rw as-many there in
-            rw (h, eq-eqb n (length s) whole, p, change-writable (contentsOf k) (read-contained s n k h .1 .fit) e p)
+      module _ (there : placeExists (editOf q a b) (length (k .found)) ≡ true) where
+        abbrev brought : Brought
+        brought = bringing q a b .brought
 
-        pub not-writable : writableEdit e ≡ false → Refused NotWritable ≡ planOf e s room
+        abbrev new : Contents
+        new = change (editOf q a b) (contentsOf k)
+
+        asked : planOf q a b s room ≡ planned (if brought .writable then (if leb (declared new) mostDeclared then inRoom room new else unchanged TooLong) else unchanged NotWritable) (stretchOf q) (laid q k)
+        unfolding planOf planFrom stepFrom step stepTo
+        asked =
+            let p : placeExists (editOf q a b) (length (payloadsOf (k .found))) ≡ true = rw as-many there in
+            rw (h, eq-eqb n (length s) whole, p, change-writable (contentsOf k) (read-contained s n k h .1 .fit) q a b p)
+
+        pub not-writable : brought .writable ≡ false → Refused NotWritable ≡ planOf q a b s room
         unfolding planned
         not-writable w = sym (asked ∙ rw w)
 
-        pub measures : writableEdit e ≡ true → measure (run e k) (laid e k .end .0) (fieldBits e + 8 * octetCount e) room ≡ planOf e s room
+        pub measures : brought .writable ≡ true → measure (stretchOf q) (laid q k) brought room ≡ planOf q a b s room
         unfolding planned inRoom measure
-        measures w = sym (asked ∙ simp (w, planned-if, declared-is e s h there))
+        measures w = sym (asked ∙ simp (w, planned-if, declared-is q a b s h there))

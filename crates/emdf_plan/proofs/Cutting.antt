@@ -1,4 +1,4 @@
--- Where the bits that an edit replaces stand in a carrier that is read. Assumes nothing.
+-- Where the bits that a request replaces stand in a carrier that is read. Assumes nothing.
 use mathlib.Core.Path.{_≡_, refl, ap, subst}
 use mathlib.Core.Bool.{true}
 use mathlib.Core.List.{List, [], _∷_}
@@ -11,20 +11,22 @@ use lib.Dec.{ltb, ltb→lt}
 use Rattle.openjoc_bitio.proofs.Bits.{length-number}
 use Rattle.emdf_format.specs.Contents.{Payload, Contents, payloadBits, containerBits, extensionBits, neededPayloads}
 use Rattle.emdf_format.specs.Reading.{Found, Container, accepted, reading, payloadOf, payloadsOf, contentsOf}
-use Rattle.emdf_format.specs.Edits.{Edit, bodyEdit, settingsEdit, dropEdit, insertEdit, keyEdit, protectionEdit, change, placeExists}
+use Rattle.emdf_format.specs.Edits.{change, placeExists}
 use Rattle.emdf_format.proofs.Standing.{T-of, length-then, stands-to}
 use Rattle.emdf_format.proofs.Lengths.{length-extended, length-payload, length-payloads, length-container}
 use Rattle.emdf_format.proofs.Carrier.{read-contained}
 use Rattle.emdf_format.proofs.Splice.{Splice, listBits, bitsBefore, splice-body, splice-settings, splice-drop, splice-insert, splice-key, splice-protection, Parts, located, payload-at}
-use Rattle.emdf_plan.specs.Plan.{placeOf, newBits, traceAt, layoutOf, runOf}
+use Rattle.emdf_plan.specs.declared.Request.{Request}
+use Rattle.emdf_plan.specs.declared.Request.the-variants as Request
+use Rattle.emdf_plan.specs.Plan.{editOf, stretchOf, bringing, newBits, traceAt, layoutOf, edgeAt}
 
--- the edit e of the container k is the splice of the bits that runOf names
-pub record Cutting (e : Edit) (k : Container) : Type 0 where
-  pub splice : Splice (contentsOf k) (change e (contentsOf k))
-  pub new : splice .new ≡ newBits e
-  pub from : runOf e (layoutOf (placeOf e) k) .from .0 ≡ 32 + length (splice .before)
-  pub to : runOf e (layoutOf (placeOf e) k) .to .0 ≡ runOf e (layoutOf (placeOf e) k) .from .0 + length (splice .old)
-  pub end : layoutOf (placeOf e) k .end .0 ≡ runOf e (layoutOf (placeOf e) k) .to .0 + length (splice .after)
+-- the edit that a request asks for is the splice of its stretch
+pub record Cutting (q : Request) (a b : List ℕ) (k : Container) : Type 0 where
+  pub splice : Splice (contentsOf k) (change (editOf q a b) (contentsOf k))
+  pub new : splice .new ≡ newBits q a b
+  pub from : edgeAt (stretchOf q .from) (layoutOf (stretchOf q .place) k) .0 ≡ 32 + length (splice .before)
+  pub to : edgeAt (stretchOf q .to) (layoutOf (stretchOf q .place) k) .0 ≡ edgeAt (stretchOf q .from) (layoutOf (stretchOf q .place) k) .0 + length (splice .old)
+  pub end : layoutOf (stretchOf q .place) k .end .0 ≡ edgeAt (stretchOf q .to) (layoutOf (stretchOf q .place) k) .0 + length (splice .after)
 
 -- ---- a splice takes all of a container and makes all of another
 
@@ -33,13 +35,11 @@ pub splice-lengths : {c d : Contents} (x : Splice c d)
     × (length (containerBits d) ≡ length (x .before) + (length (x .new) + length (x .after)))
 splice-lengths x = (rw (length-then, length-then) at (ap length (x .was)), rw (length-then, length-then) at (ap length (x .is)))
 
--- so that the end follows from its run
-cut-as : (k : Container) (e : Edit) (x : Splice (contentsOf k) (change e (contentsOf k))) → x .new ≡ newBits e
-    → runOf e (layoutOf (placeOf e) k) .from .0 ≡ 32 + length (x .before)
-    → runOf e (layoutOf (placeOf e) k) .to .0 ≡ runOf e (layoutOf (placeOf e) k) .from .0 + length (x .old)
-    → Cutting e k
+-- so that the end follows from its stretch
+cut-as : (k : Container) (q : Request) (a b : List ℕ) (x : Splice (contentsOf k) (change (editOf q a b) (contentsOf k))) → x .new ≡ newBits q a b
+    → edgeAt (stretchOf q .from) (layoutOf (stretchOf q .place) k) .0 ≡ 32 + length (x .before) → edgeAt (stretchOf q .to) (layoutOf (stretchOf q .place) k) .0 ≡ edgeAt (stretchOf q .from) (layoutOf (stretchOf q .place) k) .0 + length (x .old) → Cutting q a b k
 unfolding layoutOf
-cut-as k e x new from to =
+cut-as k q a b x new from to =
     record { splice = x; new = new; from = from; to = to; end = omega (arith, length-container (contentsOf k), splice-lengths x, from, to) }
 
 -- ---- payloads by their place
@@ -96,29 +96,30 @@ module _ (s : List ℕ) (n : ℕ) (k : Container) (r : reading s ≡ accepted n 
           let all = rw (take-all j (c .payloads) (past-all (k .found) j h)) at (length-before c j) in
           omega (arith, all, length-list (c .payloads))
 
--- ---- the six edits
+-- ---- the six requests
 
-pub cutting : (s : List ℕ) (n : ℕ) (k : Container) (e : Edit) → reading s ≡ accepted n k → placeExists e (length (k .found)) ≡ true → Cutting e k
-unfolding placeExists placeOf newBits layoutOf traceAt runOf payloadBits splice-body splice-settings splice-drop splice-insert splice-key splice-protection
-cutting s n k (bodyEdit j bs) r p =
+pub cutting : (s : List ℕ) (n : ℕ) (k : Container) (q : Request) (a b : List ℕ) → reading s ≡ accepted n k
+    → placeExists (editOf q a b) (length (k .found)) ≡ true → Cutting q a b k
+unfolding placeExists editOf bringing layoutOf traceAt payloadBits splice-body splice-settings splice-drop splice-insert splice-key splice-protection
+cutting s n k (Request.Body j) a b r p =
     let (x, h, at, parts) = there s n k r j p in
-    cut-as k (bodyEdit j bs) (splice-body (contentsOf k) j at bs) refl
+    cut-as k (Request.Body j) a b (splice-body (contentsOf k) j at a) refl
     (rw h (simp length-then (omega (arith, parts .config, parts .size))))
     (rw h (simp length-then (omega (arith, parts .body, parts .end))))
-cutting s n k (settingsEdit j t) r p =
+cutting s n k (Request.Settings j t) a b r p =
     let (x, h, at, parts) = there s n k r j p in
-    cut-as k (settingsEdit j t) (splice-settings (contentsOf k) j at t) refl (rw h (simp length-then (omega (arith, parts .config)))) (rw h (parts .size))
-cutting s n k (dropEdit j) r p =
+    cut-as k (Request.Settings j t) a b (splice-settings (contentsOf k) j at t) refl (rw h (simp length-then (omega (arith, parts .config)))) (rw h (parts .size))
+cutting s n k (Request.Drop j) a b r p =
     let (x, h, at, parts) = there s n k r j p in
-    cut-as k (dropEdit j) (splice-drop (contentsOf k) j at) refl (rw h (parts .id))
+    cut-as k (Request.Drop j) a b (splice-drop (contentsOf k) j at) refl (rw h (parts .id))
     (rw h (simp length-then (omega (arith, parts .id, parts .config, parts .size, parts .body, parts .end))))
-cutting s n k (insertEdit j i t bs) r p =
-    cut-as k (insertEdit j i t bs) (splice-insert (contentsOf k) j i t bs) refl (place-at s n k r j) (omega arith)
-cutting s n k (keyEdit i) r p =
-    cut-as k (keyEdit i) (splice-key (contentsOf k) i) refl (rw length-number) (omega (arith, length-extended 3 (k .key-id)))
-cutting s n k (protectionEdit a b) r p =
+cutting s n k (Request.Insert j i t) a b r p =
+    cut-as k (Request.Insert j i t) a b (splice-insert (contentsOf k) j i t a) refl (place-at s n k r j) (omega arith)
+cutting s n k (Request.Key i) a b r p =
+    cut-as k (Request.Key i) a b (splice-key (contentsOf k) i) refl (rw length-number) (omega (arith, length-extended 3 (k .key-id)))
+cutting s n k Request.Protection a b r p =
     let c = contentsOf k in
     let x = splice-protection c a b in
     let from : 37 + extensionBits 3 (c .key-id) + neededPayloads (c .payloads) + 5 ≡ 32 + length (x .before) =
     simp (length-then, length-number) (omega (arith, length-extended 3 (c .key-id), length-payloads (c .payloads))) in
-    cut-as k (protectionEdit a b) x refl from (omega (arith, from, length-container c, splice-lengths x))
+    cut-as k Request.Protection a b x refl from (omega (arith, from, length-container c, splice-lengths x))

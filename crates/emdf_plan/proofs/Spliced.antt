@@ -6,25 +6,28 @@ use Prim.Native.Nat.{ℕ, _+_, _-_, _*_, _^_, _≤_, _<_}
 use native.Mathlib.Omega.{arith}
 use lib.ListN.{length}
 use lib.Seq.{take-at, drop-at}
-use lib.Dec.{leb, eqb, leb→le, eqb→eq}
+use lib.Dec.{eqb, eqb→eq}
 use Rattle.openjoc_bitio.specs.Choice.{if_then_else_}
 use Rattle.openjoc_bitio.specs.Bits.{numberBits}
 use Rattle.openjoc_bitio.proofs.Bits.{length-number}
 use Rattle.emdf_format.specs.declared.EditError.{EditError}
-use Rattle.emdf_format.specs.Syntax.{_⨟_, octetBits}
-use Rattle.emdf_format.specs.Contents.{Contents, writable, declared, containerBits, carrierBits, carrier}
+use Rattle.emdf_format.specs.declared.EditError.the-variants.{TrailingData}
+use Rattle.emdf_format.specs.Syntax.{syncword, _⨟_, octetBits}
+use Rattle.emdf_format.specs.Contents.{Contents, declared, containerBits, carrierBits, carrier}
 use Rattle.emdf_format.specs.Reading.{Reading, accepted, refusal, reading, contentsOf}
-use Rattle.emdf_format.specs.Edits.{Edit, change, placeExists, Stepped, changed, unchanged, carrierLength, inRoom, weighed, step, stepFrom, Bytes}
+use Rattle.emdf_format.specs.Edits.{change, Stepped, changed, unchanged, carrierLength, stepFrom, Bytes}
 use Rattle.emdf_format.proofs.Standing.{T-of, length-then}
 use Rattle.emdf_format.proofs.Bytes.{declared-is, octets-carrier, length-carrier}
 use Rattle.emdf_format.proofs.Carrier.{read-size}
-use Rattle.emdf_format.proofs.Lists.{carried}
+use Rattle.emdf_format.proofs.Lists.{carried, changes}
 use Rattle.emdf_format.proofs.Splice.{Splice as SpliceOf, ⨟-assoc}
 use Rattle.emdf_writer.specs.Writing.{bitRun}
 use Rattle.emdf_plan.specs.declared.Cut.{Cut}
-use Rattle.emdf_plan.specs.declared.Run.{Run}
+use Rattle.emdf_plan.specs.declared.Stretch.{Stretch}
+use Rattle.emdf_plan.specs.declared.Layout.{Layout}
+use Rattle.emdf_plan.specs.declared.Request.{Request}
 use Rattle.emdf_plan.specs.declared.Plan.the-variants.{Splice, Refused}
-use Rattle.emdf_plan.specs.Plan.{placeOf, newBits, layoutOf, runOf, cutAt, planned, planFrom, planOf, spliced}
+use Rattle.emdf_plan.specs.Plan.{editOf, stretchOf, newBits, laid, cutAt, planned, planFrom, planOf, spliced}
 use Rattle.emdf_plan.proofs.Cutting.{splice-lengths, as-many, cutting}
 
 -- ---- the bits of a carrier around a cut
@@ -45,7 +48,7 @@ spliced-carrier : {c d : Contents} (x : SpliceOf c d) (cut : Cut) → cut .size 
     → cut .to .0 ≡ cut .from .0 + length (x .old) → cut .end .0 ≡ cut .to .0 + length (x .after) → spliced (carrier c) cut (x .new) ≡ carrierBits d
 unfolding spliced carrierBits
 spliced-carrier {c} {d} x cut size from to end =
-    let sync = numberBits 16 0x5838 ⨟ numberBits 16 (declared c) in
+    let sync = numberBits 16 syncword ⨟ numberBits 16 (declared c) in
     let pad = numberBits (8 * declared c - length (containerBits c)) 0 in
     let all : octetBits (carrier c) ≡ sync ⨟ x .before ⨟ x .old ⨟ x .after ⨟ pad = octets-carrier c ∙ rw (x .was) (simp ⨟-assoc) in
     let before : bitRun (carrier c) 32 (cut .from .0 - 32) ≡ x .before =
@@ -54,41 +57,18 @@ spliced-carrier {c} {d} x cut size from to end =
     run-after _ (sync ⨟ x .before ⨟ x .old) _ pad _ _ (simp (length-then, length-number) (omega (arith, from, to))) (omega (arith, end)) (all ∙ simp ⨟-assoc) in
     rw (before, after, size, kept-bits x cut from to end, x .is) (simp ⨟-assoc)
 
--- ---- the questions of a step that changes something
+-- ---- a source that is all of its container
 
--- it is answered yes, and leads there
-asked : (t : Bool) (o : Stepped) (why : EditError) {d : Contents}
-    → (if t then o else unchanged why) ≡ changed d → (t ≡ true) × (o ≡ changed d)
-asked true o why h = (refl, h)
-asked false o why h = absurd (let z : _≡_ {A = ℕ} 0 1 = cc in omega arith)
-
--- what they say of the changed contents
-record Weighed (e : Edit) (room : ℕ) (c d : Contents) : Type 0 where
-  place : placeExists e (length (c .payloads)) ≡ true
-  small : declared (change e c) ≤ 65535
-  fits : carrierLength (change e c) ≤ room
-  is : change e c ≡ d
-
-weigh : (e : Edit) (room : ℕ) (c d : Contents) → step e room c ≡ changed d → Weighed e room c d
-unfolding step weighed inRoom
-weigh e room c d h =
-    let (place, h₁) = asked (placeExists e (length (c .payloads))) _ _ h in
-    let (f, h₂) = asked (writable (change e c)) _ _ h₁ in
-    let (small, h₃) = asked (leb (declared (change e c)) 65535) _ _ h₂ in
-    let (fits, h₄) = asked (leb (carrierLength (change e c)) room) _ _ h₃ in
-    record {
-      place = place;
-      small = leb→le (declared (change e c)) 65535 (T-of small);
-      fits = leb→le (carrierLength (change e c)) room (T-of fits);
-      is = cc;
-    }
+whole : (t : Bool) (o : Stepped) {d : Contents} → (if t then o else unchanged TrailingData) ≡ changed d → (t ≡ true) × (o ≡ changed d)
+whole true o h = (refl, h)
+whole false o h = absurd (let z : _≡_ {A = ℕ} 0 1 = cc in omega arith)
 
 -- ---- what a plan says
 
 -- the step is made, and its carrier is the source with other bits between from and to
-pub record Spliceable (e : Edit) (src : List ℕ) (room : ℕ) (cut : Cut) : Type 0 where
+pub record Spliceable (q : Request) (a b : List ℕ) (src : List ℕ) (room : ℕ) (cut : Cut) : Type 0 where
   pub contents : Contents
-  pub is : stepFrom (reading src) (length src) e room ≡ changed contents
+  pub is : stepFrom (reading src) (length src) (editOf q a b) room ≡ changed contents
   pub size : cut .size .0 ≡ declared contents
   pub small : cut .size .0 < 65536
   pub fits : carrierLength contents ≤ room
@@ -97,54 +77,54 @@ pub record Spliceable (e : Edit) (src : List ℕ) (room : ℕ) (cut : Cut) : Typ
   pub ends : cut .to .0 ≤ cut .end .0
   pub there : cut .end .0 ≤ length src * 8
   pub short : length src < 2 ^ 61
-  pub kept : (cut .from .0 - 32) + length (newBits e) + (cut .end .0 - cut .to .0) ≡ length (containerBits contents)
-  pub bits : spliced src cut (newBits e) ≡ carrierBits contents
+  pub kept : (cut .from .0 - 32) + length (newBits q a b) + (cut .end .0 - cut .to .0) ≡ length (containerBits contents)
+  pub bits : spliced src cut (newBits q a b) ≡ carrierBits contents
 
-planned-splice : (o : Stepped) (r : Run) (end : ℕ) {cut : Cut} → planned o r end ≡ Splice cut
-    → (d : Contents) × (o ≡ changed d) × (cutAt r end (declared d) ≡ cut)
+planned-splice : (o : Stepped) (x : Stretch) (l : Layout) {cut : Cut} → planned o x l ≡ Splice cut
+    → (d : Contents) × (o ≡ changed d) × (cutAt x l (declared d) ≡ cut)
 unfolding planned
-planned-splice (changed d) r end h = (d, refl, cc)
-planned-splice (unchanged why) r end h = absurd (let z : _≡_ {A = ℕ} 0 1 = cc in omega arith)
+planned-splice (changed d) x l h = (d, refl, cc)
+planned-splice (unchanged why) x l h = absurd (let z : _≡_ {A = ℕ} 0 1 = cc in omega arith)
 
-planned-refused : (o : Stepped) (r : Run) (end : ℕ) {why : EditError} → planned o r end ≡ Refused why → o ≡ unchanged why
+planned-refused : (o : Stepped) (x : Stretch) (l : Layout) {why : EditError} → planned o x l ≡ Refused why → o ≡ unchanged why
 unfolding planned
-planned-refused (changed d) r end h = absurd (let z : _≡_ {A = ℕ} 0 1 = cc in omega arith)
-planned-refused (unchanged why) r end h = cc
+planned-refused (changed d) x l h = absurd (let z : _≡_ {A = ℕ} 0 1 = cc in omega arith)
+planned-refused (unchanged why) x l h = cc
 
-pub plan-splice : (e : Edit) (src : List ℕ) (room : ℕ) (cut : Cut) → Bytes src → planOf e src room ≡ Splice cut → Spliceable e src room cut
-unfolding planOf planFrom stepFrom cutAt
-plan-splice e src room cut b h = from (reading src) refl h
-  where
-    from : (r : Reading) → reading src ≡ r → planFrom r (length src) e room ≡ Splice cut → Spliceable e src room cut
-    from (refusal why) r h = absurd (let z : _≡_ {A = ℕ} 0 1 = cc in omega arith)
-    from (accepted n k) r h =
-        let c : Contents = contentsOf k in
-        let (d, i, z) = planned-splice _ _ _ h in
-        let (m, j) = asked (eqb n (length src)) _ _ i in
-        let w = weigh e room c d j in
-        let q : n ≡ length src = eqb→eq n (length src) (T-of m) in
-        let s : src ≡ carrier c = carried src k b (r ∙ rw q) .is in
-        let g = cutting src n k e r (rw as-many at (w .place)) in
-        rw (← z, ← w .is) (record {
-          contents = change e c;
-          is = rw r (i ∙ rw (w .is));
-          size = refl;
-          small = omega (arith, w .small);
-          fits = w .fits;
-          starts = omega (arith, g .from);
-          ordered = omega (arith, g .to);
-          ends = omega (arith, g .end);
-          there = omega (arith, g .from, g .to, g .end, splice-lengths (g .splice), declared-is c, ap length s, length-carrier c);
-          short = omega (arith, read-size src n k r);
-          kept = rw (← g .new) (kept-bits (g .splice) (cutAt (runOf e (layoutOf (placeOf e) k)) (layoutOf (placeOf e) k .end .0) (declared (change e c))) (g .from) (g .to) (g .end));
-          bits = rw (s, ← g .new) (spliced-carrier (g .splice) _ refl (g .from) (g .to) (g .end));
-        })
+module _ (q : Request) (a b : List ℕ) (src : List ℕ) (room : ℕ) where
+  pub plan-splice : (cut : Cut) → Bytes src → planOf q a b src room ≡ Splice cut → Spliceable q a b src room cut
+  unfolding planOf planFrom stepFrom cutAt
+  plan-splice cut f h = from (reading src) refl h
+    where
+      from : (r : Reading) → reading src ≡ r → planFrom r (length src) q a b room ≡ Splice cut → Spliceable q a b src room cut
+      from (refusal why) r h = absurd (let z : _≡_ {A = ℕ} 0 1 = cc in omega arith)
+      from (accepted n k) r h =
+          let c : Contents = contentsOf k in
+          let (d, i, z) = planned-splice _ _ _ h in
+          let (m, j) = whole (eqb n (length src)) _ i in
+          let w = changes (editOf q a b) room c d j in
+          let t : n ≡ length src = eqb→eq n (length src) (T-of m) in
+          let s : src ≡ carrier c = carried src k f (r ∙ rw t) .is in
+          let g = cutting src n k q a b r (rw as-many at (w .place)) in
+          rw (← z, ← w .is) (record {
+            contents = change (editOf q a b) c;
+            is = rw r (i ∙ rw (w .is));
+            size = refl;
+            small = omega (arith, w .small, ap declared (w .is));
+            fits = omega (arith, w .fits, ap declared (w .is));
+            starts = omega (arith, g .from);
+            ordered = omega (arith, g .to);
+            ends = omega (arith, g .end);
+            there = omega (arith, g .from, g .to, g .end, splice-lengths (g .splice), declared-is c, ap length s, length-carrier c);
+            short = omega (arith, read-size src n k r);
+            kept = rw (← g .new) (kept-bits (g .splice) (cutAt (stretchOf q) (laid q k) (declared (change (editOf q a b) c))) (g .from) (g .to) (g .end));
+            bits = rw (s, ← g .new) (spliced-carrier (g .splice) _ refl (g .from) (g .to) (g .end));
+          })
 
-pub plan-refused : (e : Edit) (src : List ℕ) (room : ℕ) (why : EditError) → planOf e src room ≡ Refused why
-    → stepFrom (reading src) (length src) e room ≡ unchanged why
-unfolding planOf planFrom stepFrom
-plan-refused e src room why h = from (reading src) h
-  where
-    from : (r : Reading) → planFrom r (length src) e room ≡ Refused why → stepFrom r (length src) e room ≡ unchanged why
-    from (refusal y) h = cc
-    from (accepted n k) h = planned-refused _ _ _ h
+  pub plan-refused : (why : EditError) → planOf q a b src room ≡ Refused why → stepFrom (reading src) (length src) (editOf q a b) room ≡ unchanged why
+  unfolding planOf planFrom stepFrom
+  plan-refused why h = from (reading src) h
+    where
+      from : (r : Reading) → planFrom r (length src) q a b room ≡ Refused why → stepFrom r (length src) (editOf q a b) room ≡ unchanged why
+      from (refusal y) h = cc
+      from (accepted n k) h = planned-refused _ _ _ h

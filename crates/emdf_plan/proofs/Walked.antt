@@ -13,7 +13,7 @@ use Rattle.emdf_format.proofs.Standing.{taken, chosen, bind-inv, choose-inv, gi
 use Rattle.emdf_format.proofs.Payloads.{Traced, more, spans-stand, at-inv, payloads-sound}
 use Rattle.emdf_format.proofs.Lengths.{length-payload}
 use Rattle.emdf_format.proofs.Spans.{bodyEnd}
-use Rattle.emdf_payloads.specs.Payloads.{Turn, ended, found, nextPayload, turnFound, turnAnswer, skipOf, Listed, stepAt}
+use Rattle.emdf_payloads.specs.Payloads.{NextPayload, ended, found, nextPayload, nextStep, nextAnswer, skipOf, Listed, stepAt}
 use Rattle.emdf_payloads.specs.declared.PayloadStep.the-variants as PayloadStep
 use Rattle.emdf_payloads.proofs.Walk.{listed-step, listed-end}
 use Rattle.emdf_plan.specs.Plan.{traceAt}
@@ -37,10 +37,10 @@ after-end p₀ id s e p h =
 
 -- the cursor past a payload is where its body ends
 step-end : (s : List ℕ) (c : BitCursor) {r : PayloadRecord} {next : BitCursor} → stepAt s c ≡ PayloadStep.Payload r next → r .trace .«payload_body_end_bit» .0 ≡ next .position
-unfolding nextPayload turnAnswer turnFound
+unfolding nextPayload nextAnswer nextStep
 step-end s c {r} {next} h = go (nextPayload s (c .end) (c .position)) refl h
   where
-    go : (y : Read Turn) → nextPayload s (c .end) (c .position) ≡ y → turnAnswer (c .end) y ≡ PayloadStep.Payload r next → r .trace .«payload_body_end_bit» .0 ≡ next .position
+    go : (y : Read NextPayload) → nextPayload s (c .end) (c .position) ≡ y → nextAnswer (c .end) y ≡ PayloadStep.Payload r next → r .trace .«payload_body_end_bit» .0 ≡ next .position
     go (got ended q) i h = absurd (let w : _≡_ {A = ℕ} 0 1 = cc in omega arith)
     go (refused why q) i h = absurd (let w : _≡_ {A = ℕ} 0 1 = cc in omega arith)
     go (got (found x) q) i h =

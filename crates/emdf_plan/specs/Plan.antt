@@ -1,26 +1,24 @@
 -- Where an edit cuts its source, and what it puts there. Assumes nothing.
-use mathlib.Core.Bool.{Bool, true}
+use mathlib.Core.Bool.{true}
 use mathlib.Core.List.{List, []}
 use mathlib.Core.Option.{Option, none, some}
-use Prim.Native.Nat.{ℕ, zero, _+_, _-_, _*_, _/_, _^_}
+use Prim.Native.Nat.{ℕ, zero, _+_, _-_, _*_, _/_, _^_, _<_, _≤_}
 use lib.ListN.{length, getElem?}
 use lib.Dec.{leb, ltb}
 use Rattle.openjoc_bitio.specs.Choice.{if_then_else_}
 use Rattle.openjoc_bitio.specs.Bits.{numberBits}
+use Rattle.openjoc_bitio.specs.declared.BitOffset.{BitOffset}
 use Rattle.emdf_format.specs.declared.EmdfPayloadBitTrace.{EmdfPayloadBitTrace}
 use Rattle.emdf_format.specs.declared.EditError.the-variants.{Emdf, TooLong, DestinationTooShort}
-use Rattle.emdf_format.specs.Syntax.{_⨟_, variableField, groups, extendedField, octetBits}
-use Rattle.emdf_format.specs.Contents.{configBits, payloadBits, protectionBits, extensionBits, neededConfig, neededPayloads, neededBits, declared, writableConfig, writablePayload}
+use Rattle.emdf_format.specs.Syntax.{syncword, mostDeclared, _⨟_, variableField, groups, extendedField, octetBits}
+use Rattle.emdf_format.specs.Contents.{Payload, configBits, payloadBits, protectionBits, extensionBits, neededConfig, neededPayloads, neededBits, declared, writableConfig, writablePayload}
 use Rattle.emdf_format.specs.Reading.{Found, traceOf, Container, Reading, accepted, refusal, reading, payloadsOf, contentsOf}
 use Rattle.emdf_format.specs.Edits.{Edit, bodyEdit, settingsEdit, dropEdit, insertEdit, keyEdit, protectionEdit, Stepped, changed, unchanged, stepFrom}
 use Rattle.emdf_measure.specs.Parts.{writableProtection}
 use Rattle.emdf_writer.specs.Writing.{bitRun}
-use Rattle.emdf_plan.specs.declared.Request.{Request}
+use Rattle.emdf_plan.specs.Types.{Request, Layout, Edge, Stretch, Brought, Cut, Plan}
 use Rattle.emdf_plan.specs.declared.Request.the-variants as Request
-use Rattle.emdf_plan.specs.declared.Layout.{Layout}
-use Rattle.emdf_plan.specs.declared.Run.{Run}
-use Rattle.emdf_plan.specs.declared.Cut.{Cut}
-use Rattle.emdf_plan.specs.declared.Plan.{Plan}
+use Rattle.emdf_plan.specs.declared.Edge.the-variants.{Key, First, Id, Config, Size, Next, Codes, End}
 use Rattle.emdf_plan.specs.declared.Plan.the-variants.{Splice, Refused}
 
 -- ---- the edit that a request asks for: octets are the new body, or the new primary protection
@@ -33,49 +31,54 @@ editOf (Request.Insert place id config) octets secondary = insertEdit place id c
 editOf (Request.Key id) octets secondary = keyEdit id
 editOf Request.Protection octets secondary = protectionEdit octets secondary
 
--- the place that it names; the others start at the first payload
-unfoldable pub placeOf : Edit → ℕ
-placeOf (bodyEdit k bs) = k
-placeOf (settingsEdit k t) = k
-placeOf (dropEdit k) = k
-placeOf (insertEdit k i t bs) = k
-placeOf (keyEdit i) = 0
-placeOf (protectionEdit a b) = 0
+-- ---- how it is written: the bits of a stretch are replaced by new ones
 
--- what 17 asks of the change itself
-unfoldable pub writableEdit : Edit → Bool
-writableEdit (bodyEdit k bs) = true
-writableEdit (settingsEdit k t) = writableConfig t
-writableEdit (dropEdit k) = true
-writableEdit (insertEdit k i t bs) = writablePayload (record { id = i; config = t; body = bs })
-writableEdit (keyEdit i) = ltb i (2 ^ 64)
-writableEdit (protectionEdit a b) = writableProtection a b
+abbrev pub stretchOf : Request → Stretch
+stretchOf (Request.Body place) = record { place = place; from = Size; to = Next }
+stretchOf (Request.Settings place config) = record { place = place; from = Config; to = Size }
+stretchOf (Request.Drop place) = record { place = place; from = Id; to = Next }
+stretchOf (Request.Insert place id config) = record { place = place; from = Id; to = Id }
+stretchOf (Request.Key id) = record { place = 0; from = Key; to = First }
+stretchOf Request.Protection = record { place = 0; from = Codes; to = End }
 
--- the bits that it puts
-unfoldable pub newBits : Edit → List ℕ
-newBits (bodyEdit k bs) = variableField 8 (length bs) ⨟ octetBits bs
-newBits (settingsEdit k t) = configBits t
-newBits (dropEdit k) = []
-newBits (insertEdit k i t bs) = payloadBits (record { id = i; config = t; body = bs })
-newBits (keyEdit i) = extendedField 3 i
-newBits (protectionEdit a b) = protectionBits a b
+-- the new bits, how many they are, and what 17 asks of them
+pub record Bringing : Type 0 where
+  pub brought : Brought
+  pub bits : List ℕ
 
--- how many they are: those of fields, and whole octets
-unfoldable pub fieldBits : Edit → ℕ
-fieldBits (bodyEdit k bs) = 9 * groups 8 (length bs)
-fieldBits (settingsEdit k t) = neededConfig t
-fieldBits (dropEdit k) = 0
-fieldBits (insertEdit k i t bs) = 5 + extensionBits 5 i + neededConfig t + 9 * groups 8 (length bs)
-fieldBits (keyEdit i) = 3 + extensionBits 3 i
-fieldBits (protectionEdit a b) = 4
+unfoldable pub bringing : Request → List ℕ → List ℕ → Bringing
+bringing (Request.Body place) octets secondary =
+    record {
+      brought = record { writable = true; fields = 9 * groups 8 (length octets); octets = length octets };
+      bits = variableField 8 (length octets) ⨟ octetBits octets;
+    }
+bringing (Request.Settings place config) octets secondary =
+    record {
+      brought = record { writable = writableConfig config; fields = neededConfig config; octets = 0 };
+      bits = configBits config;
+    }
+bringing (Request.Drop place) octets secondary =
+    record { brought = record { writable = true; fields = 0; octets = 0 }; bits = [] }
+bringing (Request.Insert place id config) octets secondary =
+    let x : Payload = record { id = id; config = config; body = octets } in
+    let fields : ℕ = 5 + extensionBits 5 id + neededConfig config + 9 * groups 8 (length octets) in
+    record {
+      brought = record { writable = writablePayload x; fields = fields; octets = length octets };
+      bits = payloadBits x;
+    }
+bringing (Request.Key id) octets secondary =
+    record {
+      brought = record { writable = ltb id (2 ^ 64); fields = 3 + extensionBits 3 id; octets = 0 };
+      bits = extendedField 3 id;
+    }
+bringing Request.Protection octets secondary =
+    record {
+      brought = record { writable = writableProtection octets secondary; fields = 4; octets = length octets + length secondary };
+      bits = protectionBits octets secondary;
+    }
 
-unfoldable pub octetCount : Edit → ℕ
-octetCount (bodyEdit k bs) = length bs
-octetCount (settingsEdit k t) = 0
-octetCount (dropEdit k) = 0
-octetCount (insertEdit k i t bs) = length bs
-octetCount (keyEdit i) = 0
-octetCount (protectionEdit a b) = length a + length b
+abbrev pub newBits : Request → List ℕ → List ℕ → List ℕ
+newBits q octets secondary = bringing q octets secondary .bits
 
 -- ---- where the parts of a container stand, and the payload at place k; past the last one, the end mark
 
@@ -94,39 +97,51 @@ layoutOf k c =
       end = record { 0 = 32 + neededBits (contentsOf c) };
     }
 
--- the bits that an edit takes away
-unfoldable pub runOf : Edit → Layout → Run
-runOf (bodyEdit k bs) l = record { from = l .place .«payload_size_start_bit»; to = l .place .«payload_body_end_bit» }
-runOf (settingsEdit k t) l = record { from = l .place .«config_start_bit»; to = l .place .«payload_size_start_bit» }
-runOf (dropEdit k) l = record { from = l .place .«payload_id_start_bit»; to = l .place .«payload_body_end_bit» }
-runOf (insertEdit k i t bs) l = record { from = l .place .«payload_id_start_bit»; to = l .place .«payload_id_start_bit» }
-runOf (keyEdit i) l = record { from = record { 0 = 34 }; to = l .first }
-runOf (protectionEdit a b) l = record { from = l .codes; to = l .end }
+-- where an edge stands; the key id follows the sync word, the declared length and the version
+abbrev pub edgeAt : Edge → Layout → BitOffset
+edgeAt Key l = record { 0 = 34 }
+edgeAt First l = l .first
+edgeAt Id l = l .place .«payload_id_start_bit»
+edgeAt Config l = l .place .«config_start_bit»
+edgeAt Size l = l .place .«payload_size_start_bit»
+edgeAt Next l = l .place .«payload_body_end_bit»
+edgeAt Codes l = l .codes
+edgeAt End l = l .end
+
+-- a stretch in the container of a carrier
+abbrev pub CutIn : Stretch → Layout → Type 0
+CutIn x l = (32 ≤ edgeAt (x .from) l .0) × (edgeAt (x .from) l .0 ≤ edgeAt (x .to) l .0) × (edgeAt (x .to) l .0 ≤ l .end .0) × (l .end .0 < 2 ^ 20)
 
 -- ---- the plan: the first question that is answered no, or where to cut
 
-unfoldable pub cutAt : Run → ℕ → ℕ → Cut
-cutAt r end size = record { from = r .from; to = r .to; end = record { 0 = end }; size = record { 0 = size } }
+unfoldable pub cutAt : Stretch → Layout → ℕ → Cut
+cutAt x l size = record { from = edgeAt (x .from) l; to = edgeAt (x .to) l; end = l .end; size = record { 0 = size } }
 
-unfoldable pub planned : Stepped → Run → ℕ → Plan
-planned (changed d) r end = Splice (cutAt r end (declared d))
-planned (unchanged why) r end = Refused why
+unfoldable pub planned : Stepped → Stretch → Layout → Plan
+planned (changed d) x l = Splice (cutAt x l (declared d))
+planned (unchanged why) x l = Refused why
 
-unfoldable pub planFrom : Reading → ℕ → Edit → ℕ → Plan
-planFrom (accepted n c) len e room =
-    let l : Layout = layoutOf (placeOf e) c in
-    planned (stepFrom (accepted n c) len e room) (runOf e l) (l .end .0)
-planFrom (refusal why) len e room = Refused (Emdf why)
+abbrev pub laid : Request → Container → Layout
+laid q c = layoutOf (stretchOf q .place) c
 
-unfoldable pub planOf : Edit → List ℕ → ℕ → Plan
-planOf e src room = planFrom (reading src) (length src) e room
+unfoldable pub planFrom : Reading → ℕ → Request → List ℕ → List ℕ → ℕ → Plan
+planFrom (accepted n c) len q octets secondary room =
+    planned (stepFrom (accepted n c) len (editOf q octets secondary) room) (stretchOf q) (laid q c)
+planFrom (refusal why) len q octets secondary room = Refused (Emdf why)
 
--- 18 and 19, where so many bits come in for those of the run
-unfoldable pub measure : Run → ℕ → ℕ → ℕ → Plan
-measure r end bits room =
-    let size : ℕ = (end - 32 - (r .to .0 - r .from .0) + bits + 7) / 8 in
-    if leb size 65535
-    then (if leb (4 + size) room then Splice (cutAt r end size) else Refused (DestinationTooShort (record { 0 = 4 + size })))
+unfoldable pub planOf : Request → List ℕ → List ℕ → List ℕ → ℕ → Plan
+planOf q octets secondary src room = planFrom (reading src) (length src) q octets secondary room
+
+-- the bytes that a container declares, where so many bits come in for those of a cut
+unfoldable pub sizeAfter : Stretch → Layout → Brought → ℕ
+sizeAfter x l b = (l .end .0 - 32 - (edgeAt (x .to) l .0 - edgeAt (x .from) l .0) + (b .fields + 8 * b .octets) + 7) / 8
+
+-- 18 and 19
+unfoldable pub measure : Stretch → Layout → Brought → ℕ → Plan
+measure x l b room =
+    let size : ℕ = sizeAfter x l b in
+    if leb size mostDeclared
+    then (if leb (4 + size) room then Splice (cutAt x l size) else Refused (DestinationTooShort (record { 0 = 4 + size })))
     else Refused TooLong
 
 -- ---- the bits of the edited carrier: the header, the source's bits around the cut, zero bits to the byte
@@ -134,7 +149,7 @@ measure r end bits room =
 unfoldable pub spliced : List ℕ → Cut → List ℕ → List ℕ
 spliced s cut new =
     let kept : ℕ = (cut .from .0 - 32) + length new + (cut .end .0 - cut .to .0) in
-    numberBits 16 0x5838
+    numberBits 16 syncword
     ⨟ numberBits 16 (cut .size .0)
     ⨟ bitRun s 32 (cut .from .0 - 32)
     ⨟ new

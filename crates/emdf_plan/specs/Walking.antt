@@ -4,7 +4,7 @@ use Prim.Native.Nat.{ℕ, zero, suc}
 use Rattle.openjoc_bitio.specs.declared.BitCursor.{BitCursor}
 use Rattle.emdf_format.specs.declared.EmdfPayloadBitTrace.{EmdfPayloadBitTrace}
 use Rattle.emdf_format.specs.Reading.{traceOf}
-use Rattle.emdf_payloads.specs.Payloads.{nextPayload, turnAnswer, skipOf}
+use Rattle.emdf_payloads.specs.Payloads.{skipOf, stepAt}
 use Rattle.emdf_payloads.specs.declared.PayloadStep.{PayloadStep}
 use Rattle.emdf_payloads.specs.declared.PayloadStep.the-variants as PayloadStep
 use Rattle.emdf_payloads.specs.declared.SkipStep.{SkipStep}
@@ -19,7 +19,7 @@ pastStep (SkipStep.Refused why) c = c
 -- past n payloads
 unfoldable pub pastPayloads : List ℕ → BitCursor → ℕ → BitCursor
 pastPayloads s c zero = c
-pastPayloads s c (suc n) = pastPayloads s (pastStep (skipOf (turnAnswer (c .end) (nextPayload s (c .end) (c .position)))) c) n
+pastPayloads s c (suc n) = pastPayloads s (pastStep (skipOf (stepAt s c)) c) n
 
 -- the spans of the payload that stands next, else all of them empty and where the cursor is
 unfoldable pub stepTrace : PayloadStep → BitCursor → EmdfPayloadBitTrace

@@ -5,9 +5,11 @@ ghost use Prim.Native.Nat.{_+_, _*_, _^_, _<_, _≤_};
 ghost use lib.ListN.{length};
 ghost use Rattle.emdf_format.specs.Reading.{traceOf};
 ghost use Rattle.emdf_format.specs.Edits.{placeExists};
-ghost use Rattle.emdf_payloads.specs.Payloads.{nextPayload, turnAnswer};
+ghost use Rattle.emdf_payloads.specs.Payloads.{stepAt};
 ghost use Rattle.openjoc_emdf.specs.Answers.{Opened};
-ghost use Rattle.emdf_plan.specs.Plan.{editOf, placeOf, writableEdit, fieldBits, octetCount, layoutOf, runOf, measure, planOf};
+ghost use Rattle.emdf_format.specs.Contents.{writablePayload};
+ghost use Rattle.emdf_plan.specs.declared.Request.the-variants.{Insert};
+ghost use Rattle.emdf_plan.specs.Plan.{editOf, stretchOf, bringing, layoutOf, edgeAt, CutIn, measure, planOf};
 ghost use Rattle.emdf_plan.specs.Walking.{pastStep, pastPayloads, stepTrace};
 use emdf_format::EditError;
 use emdf_format::EmdfPayloadBitTrace;
@@ -42,13 +44,33 @@ pub struct Layout {
     pub end: BitOffset,
 }
 
-// A run of bits that others replace.
-pub struct Run {
-    pub from: BitOffset,
-    pub to: BitOffset,
+// The edges of a container's parts: its key id, its first payload, the parts of the payload at one place, its protection.
+pub enum Edge {
+    Key,
+    First,
+    Id,
+    Config,
+    Size,
+    Next,
+    Codes,
+    End,
 }
 
-// The same in a source whose container ends at a bit, and the bytes that the container declares afterwards.
+// The bits that a request replaces: those between two edges, with the payload at a place.
+pub struct Stretch {
+    pub place: usize,
+    pub from: Edge,
+    pub to: Edge,
+}
+
+// What a request brings: whether it can be written, how many bits of fields it is, and how many whole octets.
+pub struct Brought {
+    pub writable: bool,
+    pub fields: usize,
+    pub octets: usize,
+}
+
+// The bits to replace in a source whose container ends at a bit, and the bytes that the container declares afterwards.
 pub struct Cut {
     pub from: BitOffset,
     pub to: BitOffset,
@@ -70,7 +92,7 @@ pub fn plan_edit(
     secondary: &[u8],
     room: usize,
 ) -> Plan
-    ensures { λ r. ⌜ r ≡ planOf (editOf request (now (octets .entry)) (now (secondary .entry))) (now (source .entry)) room ⌝ }
+    ensures { λ r. ⌜ r ≡ planOf request (now (octets .entry)) (now (secondary .entry)) (now (source .entry)) room ⌝ }
 {
     match open_carrier(source) {
         OpenAnswer::Open(parsed, first) => {
@@ -91,7 +113,7 @@ fn plan_opened(
     room: usize,
 ) -> Plan
     requires { ⌜ Opened (now source) parsed first ⌝ }
-    ensures { λ r. ⌜ r ≡ planOf (editOf request (now (octets .entry)) (now (secondary .entry))) (now (source .entry)) room ⌝ }
+    ensures { λ r. ⌜ r ≡ planOf request (now (octets .entry)) (now (secondary .entry)) (now (source .entry)) room ⌝ }
 {
     if parsed.bytes_consumed.0 != source.len() {
         return Plan::Refused(EditError::TrailingData);
@@ -99,18 +121,13 @@ fn plan_opened(
     if !place_exists(request, parsed.container.payloads) {
         return Plan::Refused(EditError::NoSuchPlace);
     }
-    if !is_writable(request, octets, secondary) {
+    let brought = brought_by(request, octets, secondary);
+    if !brought.writable {
         return Plan::Refused(EditError::NotWritable);
     }
-    let layout = lay_out(source, parsed, first, place_of(request));
-    let end = layout.end;
-    measured(
-        run_of(request, layout),
-        end,
-        field_bits(request, octets),
-        octet_count(request, octets, secondary),
-        room,
-    )
+    let stretch = stretch_of(request);
+    let layout = lay_out(source, parsed, first, stretch.place);
+    measured(stretch, layout, brought, room)
 }
 
 // Whether the place that a request names is there, in so many payloads.
@@ -127,69 +144,98 @@ fn place_exists(request: Request, count: usize) -> bool
     }
 }
 
-// The place that a request names.
-fn place_of(request: Request) -> usize
-    ensures { λ r. ⌜ r ≡ placeOf (editOf request [] []) ⌝ }
+// The bits that a request replaces.
+fn stretch_of(request: Request) -> Stretch
+    ensures { λ r. ⌜ r ≡ stretchOf request ⌝ }
 {
     match request {
-        Request::Body(place) => place,
-        Request::Settings(place, _) => place,
-        Request::Drop(place) => place,
-        Request::Insert(place, _, _) => place,
-        Request::Key(_) => 0,
-        Request::Protection => 0,
+        Request::Body(place) => Stretch {
+            place,
+            from: Edge::Size,
+            to: Edge::Next,
+        },
+        Request::Settings(place, _) => Stretch {
+            place,
+            from: Edge::Config,
+            to: Edge::Size,
+        },
+        Request::Drop(place) => Stretch {
+            place,
+            from: Edge::Id,
+            to: Edge::Next,
+        },
+        Request::Insert(place, _, _) => Stretch {
+            place,
+            from: Edge::Id,
+            to: Edge::Id,
+        },
+        Request::Key(_) => Stretch {
+            place: 0,
+            from: Edge::Key,
+            to: Edge::First,
+        },
+        Request::Protection => Stretch {
+            place: 0,
+            from: Edge::Codes,
+            to: Edge::End,
+        },
     }
 }
 
-// Whether what a request brings can be written. The source's contents can.
-fn is_writable(request: Request, octets: &[u8], secondary: &[u8]) -> bool
-    ensures { λ r. ⌜ r ≡ writableEdit (editOf request (now (octets .entry)) (now (secondary .entry))) ⌝ }
+// What a request brings. The source's contents can be written.
+fn brought_by(request: Request, octets: &[u8], secondary: &[u8]) -> Brought
+    ensures { λ r. ⌜ (r ≡ bringing request (now (octets .entry)) (now (secondary .entry)) .brought) × (r .fields ≤ 4096) ⌝ }
 {
     match request {
-        Request::Body(_) => true,
-        Request::Settings(_, config) => emdf_measure::writable_config(config),
-        Request::Drop(_) => true,
-        Request::Insert(_, id, config) => {
-            if id == 0 {
-                return false;
-            }
-            emdf_measure::writable_config(config)
-        }
-        Request::Key(_) => true,
-        Request::Protection => emdf_measure::writable_protection(octets, secondary),
+        Request::Body(_) => Brought {
+            writable: true,
+            fields: emdf_measure::size_bits(octets.len()),
+            octets: octets.len(),
+        },
+        Request::Settings(_, config) => Brought {
+            writable: emdf_measure::writable_config(config),
+            fields: emdf_measure::config_bits(config),
+            octets: 0,
+        },
+        Request::Drop(_) => Brought {
+            writable: true,
+            fields: 0,
+            octets: 0,
+        },
+        Request::Insert(_, id, config) => payload_brought(id, config, octets),
+        Request::Key(id) => Brought {
+            writable: true,
+            fields: emdf_measure::key_bits(id) - 2,
+            octets: 0,
+        },
+        Request::Protection => Brought {
+            writable: emdf_measure::writable_protection(octets, secondary),
+            fields: 4,
+            octets: octets.len() + secondary.len(),
+        },
     }
 }
 
-// How many bits a request brings, without whole octets.
-fn field_bits(request: Request, octets: &[u8]) -> usize
-    ensures { λ r. ⌜ (r ≡ fieldBits (editOf request (now (octets .entry)) [])) × (r ≤ 4096) ⌝ }
+// A payload with its body.
+fn payload_brought(id: u64, config: EmdfPayloadConfig, body: &[u8]) -> Brought
+    ensures { λ r. ⌜ (r ≡ bringing (Insert 0 id config) (now (body .entry)) [] .brought) × (r .fields ≤ 4096) ⌝ }
 {
-    match request {
-        Request::Body(_) => emdf_measure::size_bits(octets.len()),
-        Request::Settings(_, config) => emdf_measure::config_bits(config),
-        Request::Drop(_) => 0,
-        Request::Insert(_, id, config) => {
-            emdf_measure::id_bits(id)
-                + emdf_measure::config_bits(config)
-                + emdf_measure::size_bits(octets.len())
-        }
-        Request::Key(id) => emdf_measure::key_bits(id) - 2,
-        Request::Protection => 4,
+    Brought {
+        writable: writable_payload(id, config),
+        fields: emdf_measure::id_bits(id)
+            + emdf_measure::config_bits(config)
+            + emdf_measure::size_bits(body.len()),
+        octets: body.len(),
     }
 }
 
-// How many whole octets a request brings.
-fn octet_count(request: Request, octets: &[u8], secondary: &[u8]) -> usize
-    ensures { λ r. ⌜ r ≡ octetCount (editOf request (now (octets .entry)) (now (secondary .entry))) ⌝ }
+fn writable_payload(id: u64, config: EmdfPayloadConfig) -> bool
+    ensures { λ r. ⌜ r ≡ writablePayload (record { id = id; config = config; body = [] }) ⌝ }
 {
-    match request {
-        Request::Body(_) => octets.len(),
-        Request::Settings(_, _) => 0,
-        Request::Drop(_) => 0,
-        Request::Insert(_, _, _) => octets.len(),
-        Request::Key(_) => 0,
-        Request::Protection => octets.len() + secondary.len(),
+    if id == 0 {
+        return false;
     }
+    emdf_measure::writable_config(config)
 }
 
 // Where the parts of a container stand that is all of its source.
@@ -236,7 +282,7 @@ fn past(step: SkipStep, c: BitCursor) -> BitCursor
 
 // The spans of the payload that stands at c, or of nothing.
 fn trace_at(source: &[u8], c: BitCursor) -> EmdfPayloadBitTrace
-    ensures { λ r. ⌜ r ≡ stepTrace (turnAnswer (c .end) (nextPayload (now (source .entry)) (c .end) (c .position))) c ⌝ }
+    ensures { λ r. ⌜ r ≡ stepTrace (stepAt (now (source .entry)) c) c ⌝ }
 {
     match next_payload(source, c) {
         PayloadStep::Payload(record, _) => record.trace,
@@ -260,53 +306,40 @@ fn empty_trace(at: usize) -> EmdfPayloadBitTrace
     }
 }
 
-// The bits that a request takes away.
-fn run_of(request: Request, layout: Layout) -> Run
-    ensures { λ r. ⌜ r ≡ runOf (editOf request [] []) layout ⌝ }
+// Where an edge stands.
+fn edge_at(edge: Edge, layout: Layout) -> BitOffset
+    ensures { λ r. ⌜ r ≡ edgeAt edge layout ⌝ }
 {
     let place = layout.place;
-    let id = place.payload_id_start_bit;
-    let config = place.config_start_bit;
-    let size = place.payload_size_start_bit;
-    let next = place.payload_body_end_bit;
-    let first = layout.first;
-    let codes = layout.codes;
-    let end = layout.end;
-    match request {
-        Request::Body(_) => Run {
-            from: size,
-            to: next,
-        },
-        Request::Settings(_, _) => Run {
-            from: config,
-            to: size,
-        },
-        Request::Drop(_) => Run { from: id, to: next },
-        Request::Insert(_, _, _) => Run { from: id, to: id },
-        Request::Key(_) => Run {
-            from: BitOffset(34),
-            to: first,
-        },
-        Request::Protection => Run {
-            from: codes,
-            to: end,
-        },
+    match edge {
+        Edge::Key => BitOffset(34),
+        Edge::First => layout.first,
+        Edge::Id => place.payload_id_start_bit,
+        Edge::Config => place.config_start_bit,
+        Edge::Size => place.payload_size_start_bit,
+        Edge::Next => place.payload_body_end_bit,
+        Edge::Codes => layout.codes,
+        Edge::End => layout.end,
     }
 }
 
 // Whether the edited container can declare its length, and the carrier fits into so much room. The octets are counted before
 // they are multiplied.
-fn measured(run: Run, end: BitOffset, fields: usize, octets: usize, room: usize) -> Plan
-    requires { ⌜ (32 ≤ run .from .0) × (run .from .0 ≤ run .to .0) × (run .to .0 ≤ end .0) × (end .0 < 2 ^ 20) × (fields ≤ 4096) ⌝ }
-    ensures { λ r. ⌜ r ≡ measure run (end .0) (fields + 8 * octets) room ⌝ }
+fn measured(stretch: Stretch, layout: Layout, brought: Brought, room: usize) -> Plan
+    requires { ⌜ CutIn stretch layout × (brought .fields ≤ 4096) ⌝ }
+    ensures { λ r. ⌜ r ≡ measure stretch layout brought room ⌝ }
 {
+    let octets = brought.octets;
     if MAX_DECLARED < octets {
         return Plan::Refused(EditError::TooLong);
     }
-    let from = run.from;
-    let to = run.to;
+    let first = stretch.from;
+    let last = stretch.to;
+    let from = edge_at(first, layout);
+    let to = edge_at(last, layout);
+    let end = layout.end;
     let kept = end.0 - 32 - (to.0 - from.0);
-    let size = (kept + fields + 8 * octets + 7) / 8;
+    let size = (kept + brought.fields + 8 * octets + 7) / 8;
     if MAX_DECLARED < size {
         return Plan::Refused(EditError::TooLong);
     }

@@ -13,14 +13,14 @@ use Rattle.emdf_format.specs.Calls.{recordsOf, Records, inTable, tableAfter}
 use Rattle.emdf_format.specs.declared.PayloadRecord.{PayloadRecord}
 use Rattle.emdf_payloads.specs.declared.PayloadStep.the-variants as PayloadStep
 use Rattle.emdf_payloads.specs.Payloads.{stepAt}
-use Rattle.emdf_records_plan.specs.Records.{planOf}
+use Rattle.emdf_records_plan.specs.Records.{recordsPlan}
 use Rattle.emdf_records_plan.specs.declared.RecordsPlan.{RecordsPlan}
 use Rattle.emdf_records_plan.proofs.Records.{inside, Left, rest, Turned, turned, planned, plan-is, filled}
 use Rattle.emdf_records.proofs.Row.{Cursor, cursorVal}
 
 -- of a table xs and a carrier in s
 abbrev pub plan : List ℕ → List PayloadRecord → RecordsPlan
-plan s xs = planOf (length xs) s (reading s)
+plan s xs = recordsPlan (length xs) s (reading s)
 
 abbrev pub done : List ℕ → List PayloadRecord → Records
 done s xs = inTable (length xs) (reading s)

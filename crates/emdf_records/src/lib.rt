@@ -3,9 +3,9 @@ ghost use mathlib.Core.Path.{_≡_};
 ghost use Prim.Native.Nat.{_/_};
 ghost use lib.ListN.{length, take};
 ghost use Rattle.emdf_format.specs.Reading.{reading};
-ghost use Rattle.emdf_format.specs.Calls.{inTable, tableAfter};
-ghost use Rattle.emdf_payloads.specs.Payloads.{nextPayload, turnAnswer};
-ghost use Rattle.emdf_records_plan.specs.Records.{recordsAnswer};
+ghost use Rattle.emdf_format.specs.Calls.{inTable};
+ghost use Rattle.emdf_payloads.specs.Payloads.{stepAt};
+ghost use Rattle.emdf_records_plan.specs.Records.{GivesRecords};
 use emdf_format::PayloadRecord;
 use emdf_payloads::PayloadStep;
 use emdf_records_plan::RecordsAnswer;
@@ -13,7 +13,7 @@ use openjoc_bitio::BitCursor;
 
 // Reads the carrier at the start of bytes, and puts a record of each payload into the table.
 pub fn parse_emdf_sync_with_bit_trace(bytes: &[u8], table: &mut [PayloadRecord]) -> RecordsAnswer
-    ensures { λ r. ⌜ (r ≡ recordsAnswer (inTable (length (now (table .entry))) (reading (now (bytes .entry))))) × (now (table .exit) ≡ tableAfter (inTable (length (now (table .entry))) (reading (now (bytes .entry)))) (now (table .entry))) ⌝ }
+    ensures { λ r. ⌜ GivesRecords (inTable (length (now (table .entry))) (reading (now (bytes .entry)))) (now (table .entry)) r (now (table .exit)) ⌝ }
 {
     let plan = emdf_records_plan::plan_records(bytes, table.len());
     let mut k: usize = 0;
@@ -32,7 +32,7 @@ pub fn parse_emdf_sync_with_bit_trace(bytes: &[u8], table: &mut [PayloadRecord])
 
 // The payload at a cursor, in the bytes before the cursor's end.
 fn payload_at(bytes: &[u8], at: BitCursor) -> PayloadStep
-    ensures { λ r. ⌜ r ≡ turnAnswer (at .end) (nextPayload (take (at .end / 8) (now (bytes .entry))) (at .end) (at .position)) ⌝ }
+    ensures { λ r. ⌜ r ≡ stepAt (take (at .end / 8) (now (bytes .entry))) at ⌝ }
 {
     let n = at.end / 8;
     if bytes.len() < n {

@@ -23,22 +23,22 @@ use Rattle.openjoc_emdf.specs.declared.OpenAnswer.the-variants as OpenAnswer
 use Rattle.emdf_payloads.specs.Payloads.{Listed, stepAt}
 use Rattle.emdf_payloads.proofs.Walk.{step-found, step-ended, step-refused}
 use Rattle.openjoc_emdf.proofs.Opening.{read-first}
-use Rattle.emdf_records_plan.specs.Records.{recordsAnswer, noRows, rowsPlan, planOf}
+use Rattle.emdf_records_plan.specs.Records.{recordsAnswer, noRows, rowsPlan, recordsPlan}
 use Rattle.emdf_records_plan.specs.declared.RecordsPlan.{RecordsPlan}
 
 -- ---- the plan, by what opening the carrier answers
 
 module _ (s : List ℕ) (rows : ℕ) {r : RecordsPlan} where
-  pub opened : (x : Reading) {p : ParsedEmdf} {c : BitCursor} → openAnswer s x ≡ OpenAnswer.Open p c → r ≡ rowsPlan p c rows → r ≡ planOf rows s x
-  unfolding openAnswer planOf
+  pub opened : (x : Reading) {p : ParsedEmdf} {c : BitCursor} → openAnswer s x ≡ OpenAnswer.Open p c → r ≡ rowsPlan p c rows → r ≡ recordsPlan rows s x
+  unfolding openAnswer recordsPlan
   opened (accepted n k) {p} {c} h z =
       let a : parsedEmdf n k ≡ p = cc in
       let b : firstPayload n s ≡ c = cc in
       rw (← a, ← b) at z
   opened (refusal why) h z = absurd (let w : _≡_ {A = ℕ} 0 1 = cc in omega arith)
 
-  pub refused : (x : Reading) {why : EmdfError} → openAnswer s x ≡ OpenAnswer.Refused why → r ≡ noRows (RecordsError.Emdf why) → r ≡ planOf rows s x
-  unfolding openAnswer planOf
+  pub refused : (x : Reading) {why : EmdfError} → openAnswer s x ≡ OpenAnswer.Refused why → r ≡ noRows (RecordsError.Emdf why) → r ≡ recordsPlan rows s x
+  unfolding openAnswer recordsPlan
   refused (accepted n c) h z = absurd (let w : _≡_ {A = ℕ} 0 1 = cc in omega arith)
   refused (refusal why′) {why} h z = let a : why′ ≡ why = cc in rw (← a) at z
 
@@ -86,13 +86,13 @@ planned (recorded n c) = c .found
 planned (unrecorded why) = []
 
 pub record Planned (s : List ℕ) (rows : ℕ) (x : Reading) : Type 0 where
-  pub answer : planOf rows s x .answer ≡ recordsAnswer (inTable rows x)
-  pub count : planOf rows s x .count ≡ length (planned (inTable rows x))
-  pub room : planOf rows s x .count ≤ rows
-  pub left : Left s (planOf rows s x .first) (planned (inTable rows x))
+  pub answer : recordsPlan rows s x .answer ≡ recordsAnswer (inTable rows x)
+  pub count : recordsPlan rows s x .count ≡ length (planned (inTable rows x))
+  pub room : recordsPlan rows s x .count ≤ rows
+  pub left : Left s (recordsPlan rows s x .first) (planned (inTable rows x))
 
 pub plan-is : (s : List ℕ) (rows : ℕ) (x : Reading) → reading s ≡ x → Planned s rows x
-unfolding planOf rowsPlan inTable recordsAnswer containerOf
+unfolding recordsPlan rowsPlan inTable recordsAnswer containerOf
 plan-is s rows (refusal why) h = record { answer = refl; count = refl; room = omega arith; left = λ h. absurd (omega arith) }
 plan-is s rows (accepted n c) h = go (leb (length (c .found)) rows) refl
   where

@@ -1,4 +1,5 @@
 -- What a reading that fills a table answers, and what it plans before it fills it. Assumes nothing.
+use mathlib.Core.Path.{_≡_}
 use mathlib.Core.List.{List}
 use Prim.Native.Nat.{ℕ}
 use lib.Dec.{leb}
@@ -6,7 +7,8 @@ use Rattle.openjoc_bitio.specs.Choice.{if_then_else_}
 use Rattle.openjoc_bitio.specs.declared.BitCursor.{BitCursor}
 use Rattle.emdf_format.specs.Reader.{cursorAt}
 use Rattle.emdf_format.specs.Reading.{Reading, accepted, refusal}
-use Rattle.emdf_format.specs.Calls.{Records, recorded, unrecorded}
+use Rattle.emdf_format.specs.Calls.{Records, recorded, unrecorded, tableAfter}
+use Rattle.emdf_format.specs.declared.PayloadRecord.{PayloadRecord}
 use Rattle.emdf_format.specs.declared.RecordsError.{RecordsError}
 use Rattle.emdf_format.specs.declared.RecordsError.the-variants as RecordsError
 use Rattle.openjoc_emdf.specs.Answers.{parsedEmdf, firstPayload}
@@ -18,6 +20,10 @@ use Rattle.emdf_records_plan.specs.declared.RecordsPlan.{RecordsPlan}
 unfoldable pub recordsAnswer : Records → RecordsAnswer
 recordsAnswer (recorded n c) = RecordsAnswer.Parsed (parsedEmdf n c)
 recordsAnswer (unrecorded why) = RecordsAnswer.Refused why
+
+-- what the call gives: its answer, and its table at exit
+abbrev pub GivesRecords : Records → List PayloadRecord → RecordsAnswer → List PayloadRecord → Type 0
+GivesRecords t table answer exit = (answer ≡ recordsAnswer t) × (exit ≡ tableAfter t table)
 
 -- ---- before a row is filled
 
@@ -31,6 +37,6 @@ rowsPlan p first rows =
     then record { answer = RecordsAnswer.Parsed p; count = p .container .payloads; first = first }
     else noRows (RecordsError.TableTooShort (p .container .payloads))
 
-unfoldable pub planOf : ℕ → List ℕ → Reading → RecordsPlan
-planOf rows s (accepted n c) = rowsPlan (parsedEmdf n c) (firstPayload n s) rows
-planOf rows s (refusal why) = noRows (RecordsError.Emdf why)
+unfoldable pub recordsPlan : ℕ → List ℕ → Reading → RecordsPlan
+recordsPlan rows s (accepted n c) = rowsPlan (parsedEmdf n c) (firstPayload n s) rows
+recordsPlan rows s (refusal why) = noRows (RecordsError.Emdf why)

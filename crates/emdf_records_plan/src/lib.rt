@@ -1,7 +1,7 @@
 // What a reading into a table answers, and which rows it fills: all that is read and asked before the first row is filled.
 ghost use mathlib.Core.Path.{_≡_};
 ghost use Rattle.emdf_format.specs.Reading.{reading};
-ghost use Rattle.emdf_records_plan.specs.Records.{noRows, rowsPlan, planOf};
+ghost use Rattle.emdf_records_plan.specs.Records.{noRows, rowsPlan, recordsPlan};
 use emdf_format::RecordsError;
 use openjoc_bitio::BitCursor;
 use openjoc_emdf::OpenAnswer;
@@ -22,7 +22,7 @@ pub struct RecordsPlan {
 
 // All is read and asked here, before the first row is filled.
 pub fn plan_records(bytes: &[u8], rows: usize) -> RecordsPlan
-    ensures { λ r. ⌜ r ≡ planOf rows (now (bytes .entry)) (reading (now (bytes .entry))) ⌝ }
+    ensures { λ r. ⌜ r ≡ recordsPlan rows (now (bytes .entry)) (reading (now (bytes .entry))) ⌝ }
 {
     let a = openjoc_emdf::open_carrier(bytes);
     match a {

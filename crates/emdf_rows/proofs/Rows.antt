@@ -1,4 +1,4 @@
--- Laws of the rows, and of two numbers that answer. Assumes nothing.
+-- Laws of the rows. Assumes nothing.
 use mathlib.Core.Path.{_≡_, refl, sym, ap, _∙_}
 use mathlib.Core.Bool.{Bool, true, false}
 use mathlib.Core.List.{List, [], _∷_, _++_}
@@ -11,9 +11,7 @@ use lib.Seq.{sets, sets-eq}
 use Rattle.openjoc_bitio.specs.declared.BitCursor.{BitCursor}
 use Rattle.emdf_format.specs.Reader.{cursorAt}
 use Rattle.emdf_format.specs.Reading.{Found}
-use Rattle.emdf_format.specs.Calls.{bodyFigures, recordsOf}
-use Rattle.emdf_format.specs.declared.BodyAnswer.{BodyAnswer}
-use Rattle.emdf_format.specs.declared.BodyAnswer.the-variants as BodyAnswer
+use Rattle.emdf_format.specs.Calls.{recordsOf}
 use Rattle.emdf_format.specs.declared.Optional.{Optional}
 use Rattle.emdf_format.specs.declared.Optional.the-variants.{Absent, Present}
 use Rattle.emdf_format.specs.declared.EmdfPayloadConfig.{EmdfPayloadConfig}
@@ -26,10 +24,8 @@ use Rattle.emdf_payloads.proofs.Walk.{listed-step}
 use Rattle.emdf_payloads.specs.Compact.{CompactAt, compactRecord, compactStep}
 use Rattle.emdf_payloads.specs.declared.CompactPayload.{CompactPayload}
 use Rattle.emdf_answers.specs.Form.{bigEndian, words}
-use Rattle.emdf_answers.specs.Bits.{figured}
-use Rattle.emdf_answers.specs.Carriers.{padded, optionalWords, configWords, traceWords, recordWords, rowsBytes, moveNumber, moveWords}
-use Rattle.emdf_answers.specs.declared.Figures.{Figures}
-use Rattle.emdf_answers.proofs.Form.{length-words, elements-all}
+use Rattle.emdf_answers.specs.Carriers.{optionalWords, configWords, traceWords, recordWords, rowsBytes}
+use Rattle.emdf_answers.proofs.Form.{length-words}
 use Rattle.emdf_rows.proofs.Stored.{sets-append, words-stored, words-then}
 
 -- ---- a row
@@ -123,22 +119,3 @@ module _ {s : List ℕ} {e p : ℕ} {k : CompactPayload} {r : PayloadRecord} {ne
       by-id : (t : Bool) → eqb (top 5 (k .word)) 0 ≡ t → compactStep k e p ≡ PayloadStep.Payload r next → (compactRecord k p ≡ r) × (cursorAt e (p + k .length) ≡ next)
       by-id true z g = absurd (let g′ = rw z at g in let w : _≡_ {A = ℕ} 0 1 = cc in omega arith)
       by-id false z g = let g′ : PayloadStep.Payload (compactRecord k p) (cursorAt e (p + k .length)) ≡ PayloadStep.Payload r next = rw z at g in same-payload refl g′
-
--- ---- two numbers, and a body's move
-
-pub length-padded : (n : ℕ) (vs : List ℕ) → length (padded n vs) ≡ n
-unfolding padded
-length-padded zero vs = refl
-length-padded (suc n) [] = ap suc (length-padded n [])
-length-padded (suc n) (v ∷ vs) = ap suc (length-padded n vs)
-
-pub two-words : (n : ℕ) (ws : List ℕ) {f : Figures} → length ws ≡ 2 → f ≡ figured n ws → f .first ∷ f .second ∷ [] ≡ ws
-two-words n ws l e = rw e (rw l at (elements-all ws))
-
-length-move : (m : BodyAnswer) → length (moveWords m) ≡ 2
-unfolding moveWords
-length-move (BodyAnswer.Body start len) = refl
-length-move (BodyAnswer.Refused why) = length-padded 2 (bodyFigures why)
-
-pub move-words : (m : BodyAnswer) {f : Figures} → f ≡ figured (moveNumber m) (moveWords m) → f .first ∷ f .second ∷ [] ≡ moveWords m
-move-words m = two-words (moveNumber m) (moveWords m) (length-move m)

@@ -1,24 +1,24 @@
 // Answers and payloads' rows, stored as numbers of 8 bytes into a host's bytes.
 ghost use mathlib.Core.Path.{_≡_};
-ghost use mathlib.Core.List.{List, [], _∷_};
+ghost use mathlib.Core.List.{List};
 ghost use Prim.Native.Nat.{_+_, _*_, _≤_};
 ghost use lib.ListN.{length};
 ghost use lib.Seq.{sets};
-ghost use Rattle.openjoc_bitio.specs.declared.BitCursor.{BitCursor};
-ghost use Rattle.emdf_format.specs.declared.PayloadRecord.{PayloadRecord};
 ghost use Rattle.emdf_format.specs.Reading.{Found};
-ghost use Rattle.emdf_format.specs.Calls.{recordsOf};
-ghost use Rattle.emdf_payloads.specs.Payloads.{Listed, stepAt};
-ghost use Rattle.emdf_payloads.specs.declared.PayloadStep.the-variants.{Payload};
+ghost use Rattle.emdf_format.specs.Calls.{recordsOf, unrecorded};
+ghost use Rattle.emdf_payloads.specs.Payloads.{Listed};
 ghost use Rattle.emdf_answers.specs.Form.{bigEndian, words};
-ghost use Rattle.emdf_answers.specs.Bits.{replyBytes};
-ghost use Rattle.emdf_answers.specs.Carriers.{padded, recordWords, rowsBytes, moveNumber, moveWords};
-ghost use Rattle.emdf_answers.specs.Edits.{editedNumber, editedWords};
+ghost use Rattle.emdf_answers.specs.Bits.{BitReplies};
+ghost use Rattle.emdf_answers.specs.Replies.{twoReply, Replies};
+ghost use Rattle.emdf_answers.specs.Carriers.{readReply, recordWords, rowsBytes, moveFigures};
+ghost use Rattle.emdf_answers.specs.Edits.{editedFigures};
+ghost use Rattle.emdf_rows.specs.Rows.{PutsRow};
 use emdf_answers::BitReply;
-use emdf_answers::Figures;
 use emdf_format::BodyAnswer;
 use emdf_format::EditAnswer;
+use emdf_format::Figures;
 use emdf_format::PayloadRecord;
+use emdf_format::RecordsError;
 use emdf_payloads::PayloadStep;
 use openjoc_bitio::BitCursor;
 
@@ -26,7 +26,7 @@ use openjoc_bitio::BitCursor;
 pub const ROW_BYTES: usize = 216;
 
 pub fn put_reply(answer: &mut [u8; 48], reply: BitReply) -> u32
-    ensures { λ r. ⌜ (r ≡ reply .number) × (now (answer .exit) ≡ replyBytes reply) ⌝ }
+    ensures { λ r. ⌜ BitReplies reply r (now (answer .exit)) ⌝ }
 {
     let values = [
         reply.first,
@@ -40,9 +40,10 @@ pub fn put_reply(answer: &mut [u8; 48], reply: BitReply) -> u32
     reply.number
 }
 
-pub fn put_refusal(answer: &mut [u8; 72], f: Figures) -> u32
-    ensures { λ r. ⌜ (r ≡ f .number) × (now (answer .exit) ≡ words (padded 9 (f .first ∷ f .second ∷ []))) ⌝ }
+pub fn put_refusal(answer: &mut [u8; 72], why: RecordsError) -> u32
+    ensures { λ r. ⌜ Replies (readReply (unrecorded why)) r (now (answer .exit)) ⌝ }
 {
+    let f = emdf_refusals::figures_of(emdf_refusals::records_refusal(why));
     put_nine(answer, f.number, emdf_answers::figure_words(f))
 }
 
@@ -69,7 +70,7 @@ pub fn put_rows(table: &mut [u8], s: &[u8], c: BitCursor, count: usize)
 // The row of the payload at c, and the cursor past it.
 fn put_next(table: &mut [u8], row: usize, s: &[u8], c: BitCursor) -> BitCursor
     requires { ⌜ row + 216 ≤ length (now table) ⌝ }
-    ensures { λ r. ⌜ ((found : PayloadRecord) (next : BitCursor) → stepAt (now (s .entry)) c ≡ Payload found next → (now (table .exit) ≡ sets (now (table .entry)) row (words (recordWords found))) × (r ≡ next)) ⌝ }
+    ensures { λ r. ⌜ PutsRow (now (s .entry)) c (now (table .entry)) row r (now (table .exit)) ⌝ }
 {
     let position = c.position;
     let end = c.end;
@@ -87,7 +88,7 @@ fn put_next(table: &mut [u8], row: usize, s: &[u8], c: BitCursor) -> BitCursor
 // The row of any payload, by its record.
 fn put_found(table: &mut [u8], row: usize, s: &[u8], c: BitCursor) -> BitCursor
     requires { ⌜ row + 216 ≤ length (now table) ⌝ }
-    ensures { λ r. ⌜ ((found : PayloadRecord) (next : BitCursor) → stepAt (now (s .entry)) c ≡ Payload found next → (now (table .exit) ≡ sets (now (table .entry)) row (words (recordWords found))) × (r ≡ next)) ⌝ }
+    ensures { λ r. ⌜ PutsRow (now (s .entry)) c (now (table .entry)) row r (now (table .exit)) ⌝ }
 {
     let step = emdf_payloads::next_payload(s, c);
     let PayloadStep::Payload(record, next) = step else {
@@ -111,13 +112,13 @@ fn put_record(table: &mut [u8], at: usize, row: PayloadRecord)
 }
 
 pub fn put_moved(answer: &mut [u8; 16], moved: BodyAnswer) -> u32
-    ensures { λ r. ⌜ (r ≡ moveNumber moved) × (now (answer .exit) ≡ words (moveWords moved)) ⌝ }
+    ensures { λ r. ⌜ Replies (twoReply (moveFigures moved)) r (now (answer .exit)) ⌝ }
 {
     put_two(answer, emdf_answers::move_figures(moved))
 }
 
 fn put_two(answer: &mut [u8; 16], f: Figures) -> u32
-    ensures { λ r. ⌜ (r ≡ f .number) × (now (answer .exit) ≡ words (f .first ∷ f .second ∷ [])) ⌝ }
+    ensures { λ r. ⌜ Replies (twoReply f) r (now (answer .exit)) ⌝ }
 {
     let values = [f.first, f.second];
     put_words(answer, 0, &values);
@@ -125,7 +126,7 @@ fn put_two(answer: &mut [u8; 16], f: Figures) -> u32
 }
 
 pub fn put_edited(answer: &mut [u8; 16], edited: EditAnswer) -> u32
-    ensures { λ r. ⌜ (r ≡ editedNumber edited) × (now (answer .exit) ≡ words (editedWords edited)) ⌝ }
+    ensures { λ r. ⌜ Replies (twoReply (editedFigures edited)) r (now (answer .exit)) ⌝ }
 {
     put_two(answer, emdf_answers::edited_figures(edited))
 }

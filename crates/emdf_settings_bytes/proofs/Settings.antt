@@ -19,7 +19,7 @@ use Rattle.openjoc_bitio.specs.declared.BitsAnswer.the-variants.{Value, Refused
 use Rattle.openjoc_bitio.proofs.Cursor.{remaining-inside, read-accepted}
 use Rattle.openjoc_bitio.proofs.Bits.{value-none, value-split, value-octet, value-append, value-drop}
 use Rattle.emdf_format.specs.Contents.{_&_, whenPresent, upTo, writableConfig, Payload, writablePayload, writablePayloads, Contents, writable}
-use Rattle.emdf_format.specs.Edits.{settingsEdit, insertEdit, withConfig, withPayloads, change, placeExists, unchanged, weighed, step}
+use Rattle.emdf_format.specs.Edits.{settingsEdit, insertEdit, withAt, withConfig, withPayloads, change, placeExists, unchanged, stepTo, step}
 use Rattle.emdf_format.specs.declared.EditError.the-variants.{NotWritable}
 use Rattle.emdf_format.specs.declared.Optional.{Optional}
 use Rattle.emdf_format.specs.declared.Optional.the-variants.{Absent, Present}
@@ -49,7 +49,7 @@ bytes-value (suc n) v =
     rw (e, value-split (b ∷ l) 0 8 (8 * n), first-byte b l, f, d) (sym (mod-pow-add v 8 (8 * n)))
 
 -- each of some numbers is read back from their bytes
-number-read : (vs : List ℕ) (k : ℕ) → k < length vs → getD vs k 0 < 2 ^ 64 → numberAt (words vs) k ≡ getD vs k 0
+pub number-read : (vs : List ℕ) (k : ℕ) → k < length vs → getD vs k 0 < 2 ^ 64 → numberAt (words vs) k ≡ getD vs k 0
 unfolding numberAt words bigEndian
 number-read [] k h l = absurd (omega arith)
 number-read (v ∷ vs) zero h l =
@@ -145,8 +145,8 @@ module _ (x : Payload) (h : writableConfig (x .config) ≡ false) where
   payloads-unwritable [] ys = sym (stop _ payload-unwritable)
   payloads-unwritable (z ∷ xs) ys = and-not _ (payloads-unwritable xs ys)
 
-with-unwritable : (t : EmdfPayloadConfig) → writableConfig t ≡ false → (k : ℕ) (xs : List Payload) → k < length xs → writablePayloads (withConfig k t xs) ≡ false
-unfolding withConfig writablePayloads
+with-unwritable : (t : EmdfPayloadConfig) → writableConfig t ≡ false → (k : ℕ) (xs : List Payload) → k < length xs → writablePayloads (withAt k (withConfig t) xs) ≡ false
+unfolding withAt writablePayloads
 with-unwritable t h k [] l = absurd (omega arith)
 with-unwritable t h zero (x ∷ xs) l = sym (stop _ (payload-unwritable _ h))
 with-unwritable t h (suc k) (x ∷ xs) l = and-not _ (with-unwritable t h k xs (omega arith))
@@ -156,8 +156,8 @@ module _ (c : Contents) (xs : List Payload) (h : writablePayloads xs ≡ false) 
   unfolding writable withPayloads
   contents-unwritable = and-not _ (sym (stop _ h))
 
-  unwritable-refused : (room : ℕ) → weighed room (withPayloads c xs) ≡ unchanged NotWritable
-  unfolding weighed
+  unwritable-refused : (room : ℕ) → stepTo room (withPayloads c xs) ≡ unchanged NotWritable
+  unfolding stepTo
   unwritable-refused room = rw contents-unwritable
 
 module _ (s : List ℕ) (outside : (eqb (length s) 144 & settingsFormed s) ≡ false) where

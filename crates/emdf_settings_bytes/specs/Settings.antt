@@ -7,6 +7,7 @@ use lib.Dec.{eqb}
 use Rattle.openjoc_bitio.specs.Choice.{if_then_else_}
 use Rattle.openjoc_bitio.specs.Bits.{bitsValue}
 use Rattle.emdf_format.specs.Contents.{_&_}
+use Rattle.emdf_answers.specs.Form.{settingsBytes}
 use Rattle.emdf_format.specs.declared.Optional.{Optional}
 use Rattle.emdf_format.specs.declared.Optional.the-variants.{Absent, Present}
 use Rattle.emdf_format.specs.declared.EmdfPayloadConfig.{EmdfPayloadConfig}
@@ -64,4 +65,4 @@ unformed =
     }
 
 unfoldable pub settingsOf : List ℕ → EmdfPayloadConfig
-settingsOf s = if eqb (length s) 144 & settingsFormed s then configOf s else unformed
+settingsOf s = if eqb (length s) settingsBytes & settingsFormed s then configOf s else unformed

@@ -11,7 +11,7 @@ use native.Mathlib.Omega.{arith}
 use lib.ListN.{length, getD, set, take, drop, length-set, length-append}
 use lib.Seq.{length-take-le, take-length, drop-length, take-suc, drop-cons, take-suc-set, drop-nil, drop-set-lt}
 use Rattle.io.specs.Counts.{Counts}
-use Rattle.emdf_text.specs.Lines.{decimal, spaced, Put, PutWithin}
+use Rattle.emdf_text.specs.Lines.{decimal, spaced, Printed, PrintedWithin}
 
 -- ---- what stands after the text
 
@@ -27,7 +27,7 @@ later n k a b h l =
 
 -- ---- bytes
 
-pub one-byte : (before : List ℕ) (at b : ℕ) → at < length before → Put before at (b ∷ []) (set before at b) (at + 1)
+pub one-byte : (before : List ℕ) (at b : ℕ) → at < length before → Printed before at (b ∷ []) (set before at b) (at + 1)
 one-byte before at b h = record { is = rw add-one (take-suc-set before at b h); rest = drop-set-lt (at + 1) before at b (omega arith); size = refl; inside = rw length-set (omega arith) }
 
 -- one byte more of a text
@@ -42,16 +42,16 @@ pub more-rest : (before after : List ℕ) (at i b : ℕ) → drop (at + i) after
 more-rest before after at i b h = drop-set-lt (at + (i + 1)) after (at + i) b (omega arith) ∙ later (at + i) (at + (i + 1)) after before h (omega arith)
 
 -- all of it
-pub all-bytes : (before text after : List ℕ) (at i : ℕ) → i ≡ length text → at + i ≤ length after → take (at + i) after ≡ take at before ++ take i text → drop (at + i) after ≡ drop (at + i) before → Put before at text after (at + i)
+pub all-bytes : (before text after : List ℕ) (at i : ℕ) → i ≡ length text → at + i ≤ length after → take (at + i) after ≡ take at before ++ take i text → drop (at + i) after ≡ drop (at + i) before → Printed before at text after (at + i)
 all-bytes before text after at i e l h r = record { is = h ∙ rw (e, take-length); rest = r; size = rw e; inside = l }
 
 -- ---- parts
 
-pub nothing : (before : List ℕ) (at : ℕ) → at ≤ length before → Put before at [] before at
+pub nothing : (before : List ℕ) (at : ℕ) → at ≤ length before → Printed before at [] before at
 nothing before at h = record { is = sym (append-nil _); rest = refl; size = rw add-zero; inside = h }
 
 -- a text, and another one after it
-pub both : {before middle after first second : List ℕ} {at mid end : ℕ} → Put before at first middle mid → Put middle mid second after end → Put before at (first ++ second) after end
+pub both : {before middle after first second : List ℕ} {at mid end : ℕ} → Printed before at first middle mid → Printed middle mid second after end → Printed before at (first ++ second) after end
 both {before} {middle} {after} {first} {second} {at} {mid} {end} p q =
     record {
       is = q .is ∙ ap (λ (x : List ℕ). x ++ second) (p .is) ∙ append-assoc (take at before) first second;
@@ -60,19 +60,19 @@ both {before} {middle} {after} {first} {second} {at} {mid} {end} p q =
       inside = q .inside;
     }
 
-pub put-as : {before text text′ after : List ℕ} {at end : ℕ} → Put before at text after end → text ≡ text′ → Put before at text′ after end
+pub put-as : {before text text′ after : List ℕ} {at end : ℕ} → Printed before at text after end → text ≡ text′ → Printed before at text′ after end
 put-as p e = rw e at p
 
 -- at the start
-pub whole : {before text after : List ℕ} {end : ℕ} → Put before 0 text after end → (take end after ≡ text) × Counts end after
+pub whole : {before text after : List ℕ} {end : ℕ} → Printed before 0 text after end → (take end after ≡ text) × Counts end after
 whole {before} {text} {after} {end} p = (p .is, (p .inside, sym (length-take-le end after (p .inside))))
 
 -- ---- room
 
-pub has-put : {before text after : List ℕ} {at end most : ℕ} → at + most ≤ length before → Put before at text after end → end ≤ at + most → PutWithin most before at text after end
+pub has-put : {before text after : List ℕ} {at end most : ℕ} → at + most ≤ length before → Printed before at text after end → end ≤ at + most → PrintedWithin most before at text after end
 has-put h p l = record { put = λ r. (p, l); left = λ r. absurd (omega arith) }
 
-pub left-out : {before text : List ℕ} {at most : ℕ} → length before < at + most → PutWithin most before at text before at
+pub left-out : {before text : List ℕ} {at most : ℕ} → length before < at + most → PrintedWithin most before at text before at
 left-out h = record { put = λ r. absurd (omega arith); left = λ r. (refl, refl) }
 
 module _ {t : Bool} (need size : ℕ) (e : t ≡ leb need size) where
@@ -92,9 +92,9 @@ module _ {t : Bool} (need size : ℕ) (e : t ≡ leb need size) where
 
 -- where the rest is put at index mid, the whole text stands at index at
 abbrev pub Leaves : List ℕ → ℕ → List ℕ → List ℕ → ℕ → List ℕ → Type 0
-Leaves before at text middle mid rest = (after : List ℕ) (end : ℕ) → Put middle mid rest after end → Put before at text after end
+Leaves before at text middle mid rest = (after : List ℕ) (end : ℕ) → Printed middle mid rest after end → Printed before at text after end
 
-pub leaves-less : {before text middle next first rest : List ℕ} {at mid end : ℕ} → Leaves before at text middle mid (first ++ rest) → Put middle mid first next end → Leaves before at text next end rest
+pub leaves-less : {before text middle next first rest : List ℕ} {at mid end : ℕ} → Leaves before at text middle mid (first ++ rest) → Printed middle mid first next end → Leaves before at text next end rest
 leaves-less f p after end q = f after end (both p q)
 
 -- ---- numbers after a word

@@ -8,7 +8,7 @@ use lib.ListN.{length, getD, drop, length-drop, drop-of-length-le}
 use lib.Seq.{drop-cons}
 use lib.Dec.{ltb, leb}
 use borrow.Author.Tests.{leb-true}
-use Rattle.emdf_text.specs.Text.{digit, digitStep, scan, numberAt}
+use Rattle.emdf_text.specs.Text.{digit, digitStep, scan, decimalAt}
 use Rattle.emdf_text.specs.declared.NumberAnswer.{NumberAnswer}
 use Rattle.emdf_text.specs.declared.NumberAnswer.the-variants.{Number, Nothing}
 use Rattle.emdf_text.specs.declared.DigitStep.{DigitStep}
@@ -86,6 +86,6 @@ number-cases s at v n true d e =
 number-cases s at v n false d e = let z : _≡_ {A = ℕ} 0 1 = cc in omega arith
 
 -- a number has a digit, and ends in the text
-pub number-inside : (s : List ℕ) (at v n : ℕ) → numberAt s at ≡ Number v n → (at < n) × (n ≤ length s)
-unfolding numberAt
+pub number-inside : (s : List ℕ) (at v n : ℕ) → decimalAt s at ≡ Number v n → (at < n) × (n ≤ length s)
+unfolding decimalAt
 number-inside s at v n e = number-cases s at v n (digit (getD s at 0)) refl e

@@ -29,13 +29,13 @@ unfoldable pub line : List ℕ → List ℕ → List ℕ
 line word ns = word ++ spaced ns
 
 -- text was put at index at and ends at index end; what stood before and after it still does
-pub record Put (before : List ℕ) (at : ℕ) (text after : List ℕ) (end : ℕ) : Type 0 where
+pub record Printed (before : List ℕ) (at : ℕ) (text after : List ℕ) (end : ℕ) : Type 0 where
   pub is : take end after ≡ take at before ++ text
   pub rest : drop end after ≡ drop end before
   pub size : end ≡ at + length text
   pub inside : end ≤ length after
 
 -- text is put where there is room for most bytes, and takes no more; else nothing is
-pub record PutWithin (most : ℕ) (before : List ℕ) (at : ℕ) (text after : List ℕ) (end : ℕ) : Type 0 where
-  pub put : at + most ≤ length before → Put before at text after end × (end ≤ at + most)
+pub record PrintedWithin (most : ℕ) (before : List ℕ) (at : ℕ) (text after : List ℕ) (end : ℕ) : Type 0 where
+  pub put : at + most ≤ length before → Printed before at text after end × (end ≤ at + most)
   pub left : length before < at + most → (after ≡ before) × (end ≡ at)

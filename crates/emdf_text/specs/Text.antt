@@ -20,8 +20,8 @@ scan v i (b ∷ bs) =
     cond (digit b) (cond (ltb (v * 10 + (b - 48)) (2 ^ 64)) (scan (v * 10 + (b - 48)) (suc i) bs) Nothing) (Number v i)
 
 -- the number whose digits start at index at, and the index past its last digit
-unfoldable pub numberAt : List ℕ → ℕ → NumberAnswer
-numberAt s at = cond (digit (getD s at 0)) (scan 0 at (drop at s)) Nothing
+unfoldable pub decimalAt : List ℕ → ℕ → NumberAnswer
+decimalAt s at = cond (digit (getD s at 0)) (scan 0 at (drop at s)) Nothing
 
 -- one byte of a scan
 unfoldable pub digitStep : ℕ → ℕ → DigitStep

@@ -3,7 +3,7 @@ mod lines;
 
 ghost use mathlib.Core.Path.{_≡_};
 ghost use lib.ListN.{drop};
-ghost use Rattle.emdf_text.specs.Text.{digit, digitStep, scan, numberAt};
+ghost use Rattle.emdf_text.specs.Text.{digit, digitStep, scan, decimalAt};
 pub use lines::put_decimal;
 pub use lines::put_line;
 
@@ -23,7 +23,7 @@ enum DigitStep {
 
 // The number whose digits start at index at.
 pub fn number_at(text: &[u8], at: usize) -> NumberAnswer
-    ensures { λ r. ⌜ r ≡ numberAt (now (text .entry)) at ⌝ }
+    ensures { λ r. ⌜ r ≡ decimalAt (now (text .entry)) at ⌝ }
 {
     if text.len() <= at {
         return NumberAnswer::Nothing;

@@ -4,11 +4,11 @@ ghost use mathlib.Core.Path.{_≡_};
 ghost use mathlib.Core.List.{[], _∷_};
 ghost use lib.ListN.{length};
 ghost use lib.Dec.{leb};
-ghost use Rattle.emdf_text.specs.Lines.{decimal, spaced, line, Put, PutWithin};
+ghost use Rattle.emdf_text.specs.Lines.{decimal, spaced, line, Printed, PrintedWithin};
 
 // A word, and numbers after it, where 21 bytes a number have room; else nothing.
 pub fn put_line(out: &mut [u8], at: usize, word: &[u8], numbers: &[u64]) -> usize
-    ensures { λ r. ⌜ PutWithin (length (now (word .entry)) + 21 * length (now (numbers .entry)) + 1) (now (out .entry)) at (line (now (word .entry)) (now (numbers .entry))) (now (out .exit)) r ⌝ }
+    ensures { λ r. ⌜ PrintedWithin (length (now (word .entry)) + 21 * length (now (numbers .entry)) + 1) (now (out .entry)) at (line (now (word .entry)) (now (numbers .entry))) (now (out .exit)) r ⌝ }
 {
     if !has_room(out.len(), at, word.len(), numbers.len()) {
         return at;
@@ -37,7 +37,7 @@ fn has_room(size: usize, at: usize, word: usize, numbers: usize) -> bool
 // The numbers, a space before each, and the end of the line.
 fn put_numbers(out: &mut [u8], at: usize, numbers: &[u64]) -> usize
     requires { ⌜ at + 21 * length (now numbers) + 1 ≤ length (now out) ⌝ }
-    ensures { λ r. ⌜ Put (now (out .entry)) at (spaced (now (numbers .entry))) (now (out .exit)) r ⌝ }
+    ensures { λ r. ⌜ Printed (now (out .entry)) at (spaced (now (numbers .entry))) (now (out .exit)) r ⌝ }
     ensures { λ r. ⌜ r ≤ at + 21 * length (now (numbers .entry)) + 1 ⌝ }
 {
     let mut end = at;
@@ -52,7 +52,7 @@ fn put_numbers(out: &mut [u8], at: usize, numbers: &[u64]) -> usize
 // A space, and the number.
 fn put_number(out: &mut [u8], at: usize, number: u64) -> usize
     requires { ⌜ at + 21 ≤ length (now out) ⌝ }
-    ensures { λ r. ⌜ Put (now (out .entry)) at (32 ∷ decimal number) (now (out .exit)) r ⌝ }
+    ensures { λ r. ⌜ Printed (now (out .entry)) at (32 ∷ decimal number) (now (out .exit)) r ⌝ }
     ensures { λ r. ⌜ r ≤ at + 21 ⌝ }
 {
     let end = put_byte(out, at, b' ');
@@ -61,7 +61,7 @@ fn put_number(out: &mut [u8], at: usize, number: u64) -> usize
 
 // A number of at most 20 digits, where 20 bytes have room; else nothing.
 pub fn put_decimal(out: &mut [u8], at: usize, number: u64) -> usize
-    ensures { λ r. ⌜ PutWithin 20 (now (out .entry)) at (decimal number) (now (out .exit)) r ⌝ }
+    ensures { λ r. ⌜ PrintedWithin 20 (now (out .entry)) at (decimal number) (now (out .exit)) r ⌝ }
 {
     if !has_room(out.len(), at, 19, 0) {
         return at;
@@ -73,7 +73,7 @@ pub fn put_decimal(out: &mut [u8], at: usize, number: u64) -> usize
 
 // The bytes, where they have room; else nothing.
 fn put_bytes(out: &mut [u8], at: usize, bytes: &[u8]) -> usize
-    ensures { λ r. ⌜ PutWithin (length (now (bytes .entry))) (now (out .entry)) at (now (bytes .entry)) (now (out .exit)) r ⌝ }
+    ensures { λ r. ⌜ PrintedWithin (length (now (bytes .entry))) (now (out .entry)) at (now (bytes .entry)) (now (out .exit)) r ⌝ }
 {
     if out.len() < at {
         return at;
@@ -86,7 +86,7 @@ fn put_bytes(out: &mut [u8], at: usize, bytes: &[u8]) -> usize
 
 fn copy_bytes(out: &mut [u8], at: usize, bytes: &[u8]) -> usize
     requires { ⌜ at + length (now bytes) ≤ length (now out) ⌝ }
-    ensures { λ r. ⌜ Put (now (out .entry)) at (now (bytes .entry)) (now (out .exit)) r ⌝ }
+    ensures { λ r. ⌜ Printed (now (out .entry)) at (now (bytes .entry)) (now (out .exit)) r ⌝ }
 {
     let mut i: usize = 0;
     while i < bytes.len() {
@@ -98,7 +98,7 @@ fn copy_bytes(out: &mut [u8], at: usize, bytes: &[u8]) -> usize
 
 fn put_byte(out: &mut [u8], at: usize, byte: u8) -> usize
     requires { ⌜ at < length (now out) ⌝ }
-    ensures { λ r. ⌜ Put (now (out .entry)) at (byte ∷ []) (now (out .exit)) r ⌝ }
+    ensures { λ r. ⌜ Printed (now (out .entry)) at (byte ∷ []) (now (out .exit)) r ⌝ }
 {
     out[at] = byte;
     at + 1

@@ -12,10 +12,9 @@ use borrow.Author.Tests.{leb-true, ltb-true, le-leb, lt-leb}
 use Rattle.openjoc_bitio.specs.Choice.{if_then_else_}
 use Rattle.openjoc_bitio.specs.Bits.{numberBits}
 use Rattle.openjoc_bitio.specs.Cursor.{bitLength}
-use Rattle.openjoc_bitio.proofs.Bits.{length-number}
 use Rattle.emdf_format.specs.Syntax.{octetBits}
-use Rattle.emdf_writer.specs.Writing.{putBits, bitRun, numberPut, bitsCopied}
-use Rattle.emdf_writer.proofs.Run.{length-run}
+use Rattle.emdf_format.specs.Contents.{_&_}
+use Rattle.emdf_writer.specs.Writing.{bitRun, numberFits, runFits, numberPut, bitsCopied}
 
 -- the test without the sum
 pub room-test : (limit at n : ℕ) → at ≤ limit → leb n (limit - at) ≡ leb (at + n) limit
@@ -40,29 +39,36 @@ inside s at n h = go (ltb (length s) (2 ^ 61)) (λ e. ltb-true (length s) (2 ^ 6
 
 -- ---- a number
 
-pub number-wide : (out : List ℕ) (at w v : ℕ) → 64 < w → octetBits out ≡ numberPut out at w v
-unfolding numberPut
-number-wide out at w v h = simp (lt-leb w 64 h)
+-- what is answered, and the bits that are left
+abbrev Number : List ℕ → ℕ → ℕ → ℕ → Bool → List ℕ → Type 0
+Number out at w v r bits = (r ≡ numberFits out at w) × (bits ≡ numberPut out at w v)
 
-pub number-out : (out : List ℕ) (at w v : ℕ) → w ≤ 64 → leb (at + w) (bitLength out) ≡ false → octetBits out ≡ numberPut out at w v
-unfolding numberPut putBits
-number-out out at w v h e = simp (le-leb w 64 h, length-number, e)
+pub number-wide : (out : List ℕ) (at w v : ℕ) → 64 < w → Number out at w v false (octetBits out)
+unfolding numberPut numberFits _&_
+number-wide out at w v h = simp (lt-leb w 64 h) (refl, refl)
 
-pub number-in : (out : List ℕ) (at w v : ℕ) → w ≤ 64 → leb (at + w) (bitLength out) ≡ true → sets (octetBits out) at (numberBits w v) ≡ numberPut out at w v
-unfolding numberPut putBits
-number-in out at w v h e = simp (le-leb w 64 h, length-number, e)
+pub number-out : (out : List ℕ) (at w v : ℕ) → w ≤ 64 → leb (at + w) (bitLength out) ≡ false → Number out at w v false (octetBits out)
+unfolding numberPut numberFits _&_
+number-out out at w v h e = simp (le-leb w 64 h, e) (refl, refl)
+
+pub number-in : (out : List ℕ) (at w v : ℕ) → w ≤ 64 → leb (at + w) (bitLength out) ≡ true → Number out at w v true (sets (octetBits out) at (numberBits w v))
+unfolding numberPut numberFits _&_
+number-in out at w v h e = simp (le-leb w 64 h, e) (refl, refl)
 
 -- ---- a run of bits
 
-pub run-away : (out : List ℕ) (at : ℕ) (s : List ℕ) (p n : ℕ) → leb (p + n) (bitLength s) ≡ false → octetBits out ≡ bitsCopied out at s p n
-unfolding bitsCopied
-run-away out at s p n e = simp e
+abbrev Run : List ℕ → ℕ → List ℕ → ℕ → ℕ → Bool → List ℕ → Type 0
+Run out at s p n r bits = (r ≡ runFits out at s p n) × (bits ≡ bitsCopied out at s p n)
 
-pub run-out : (out : List ℕ) (at : ℕ) (s : List ℕ) (p n : ℕ) → leb (p + n) (bitLength s) ≡ true → leb (at + n) (bitLength out) ≡ false → octetBits out ≡ bitsCopied out at s p n
-unfolding bitsCopied putBits
-run-out out at s p n h e = simp (h, length-run s p n (inside s p n h .within), e)
+module _ (out : List ℕ) (at : ℕ) (s : List ℕ) (p n : ℕ) where
+  pub run-away : leb (p + n) (bitLength s) ≡ false → Run out at s p n false (octetBits out)
+  unfolding bitsCopied runFits _&_
+  run-away e = simp e (refl, refl)
 
-pub run-in : (out : List ℕ) (at : ℕ) (s : List ℕ) (p n : ℕ) → leb (p + n) (bitLength s) ≡ true → leb (at + n) (bitLength out) ≡ true
-    → sets (octetBits out) at (bitRun s p n) ≡ bitsCopied out at s p n
-unfolding bitsCopied putBits
-run-in out at s p n h e = simp (h, length-run s p n (inside s p n h .within), e)
+  pub run-out : leb (p + n) (bitLength s) ≡ true → leb (at + n) (bitLength out) ≡ false → Run out at s p n false (octetBits out)
+  unfolding bitsCopied runFits _&_
+  run-out h e = simp (h, e) (refl, refl)
+
+  pub run-in : leb (p + n) (bitLength s) ≡ true → leb (at + n) (bitLength out) ≡ true → Run out at s p n true (sets (octetBits out) at (bitRun s p n))
+  unfolding bitsCopied runFits _&_
+  run-in h e = simp (h, e) (refl, refl)

@@ -7,34 +7,37 @@ ghost use lib.Dec.{leb};
 ghost use Rattle.openjoc_bitio.specs.Bits.{bitsValue, numberBits};
 ghost use Rattle.openjoc_bitio.specs.Cursor.{bitLength};
 ghost use Rattle.emdf_format.specs.Syntax.{octetBits};
-ghost use Rattle.emdf_writer.specs.Writing.{bitRun, numberPut, bitsCopied};
+ghost use Rattle.emdf_writer.specs.Writing.{bitRun, numberFits, runFits, numberPut, bitsCopied};
 use openjoc_bitio::BitCursor;
 
-// The width low bits of v, from bit at on, the most significant first. Nothing where they don't fit, or the width is
-// above 64.
-pub fn put_number(out: &mut [u8], at: usize, width: usize, v: u64)
-    ensures { λ _. ⌜ octetBits (now (out .exit)) ≡ numberPut (now (out .entry)) at width v ⌝ }
+// The width low bits of v, from bit at on, the most significant first. Answers whether they were put: nothing is where they don't
+// fit, or the width is above 64.
+pub fn put_number(out: &mut [u8], at: usize, width: usize, v: u64) -> bool
+    ensures { λ r. ⌜ (r ≡ numberFits (now (out .entry)) at width) × (octetBits (now (out .exit)) ≡ numberPut (now (out .entry)) at width v) ⌝ }
 {
     if 64 < width {
-        return;
+        return false;
     }
     if !has_bits(out, at, width) {
-        return;
+        return false;
     }
     put_parts(out, at, width, v);
+    true
 }
 
-// n bits of s from bit from on, to out from bit at on. Nothing where they are not there, or don't fit.
-pub fn copy_bits(out: &mut [u8], at: usize, s: &[u8], from: usize, n: usize)
-    ensures { λ _. ⌜ octetBits (now (out .exit)) ≡ bitsCopied (now (out .entry)) at (now (s .entry)) from n ⌝ }
+// n bits of s from bit from on, to out from bit at on. Answers whether they were put: nothing is where they are not there, or don't
+// fit.
+pub fn copy_bits(out: &mut [u8], at: usize, s: &[u8], from: usize, n: usize) -> bool
+    ensures { λ r. ⌜ (r ≡ runFits (now (out .entry)) at (now (s .entry)) from n) × (octetBits (now (out .exit)) ≡ bitsCopied (now (out .entry)) at (now (s .entry)) from n) ⌝ }
 {
     if !has_bits(s, from, n) {
-        return;
+        return false;
     }
     if !has_bits(out, at, n) {
-        return;
+        return false;
     }
     copy_run(out, at, s, from, n);
+    true
 }
 
 // Whether s has n bits from bit at on.

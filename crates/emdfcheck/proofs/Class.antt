@@ -13,7 +13,8 @@ use Rattle.openjoc_bitio.specs.declared.BitCursor.{BitCursor}
 use Rattle.openjoc_bitio.specs.Bits.{bitsValue}
 use Rattle.emdf_format.specs.Contents.{_&_}
 use Rattle.emdf_format.specs.Reading.{Container, Reading, accepted, refusal, reading}
-use Rattle.emdf_format.specs.Calls.{number, Class, nonEmdf, malformed, classOf, classify}
+use Rattle.emdf_format.specs.Refusals.{refusalOf, figuresOf}
+use Rattle.emdf_format.specs.Calls.{Class, nonEmdf, malformed, classOf, classify}
 use Rattle.emdf_format.specs.declared.EmdfError.{EmdfError}
 use Rattle.openjoc_emdf.specs.Answers.{parsedEmdf, parseAnswer, firstPayload, openAnswer, classAnswer}
 use Rattle.emdf_container.specs.Container.{containerOf}
@@ -25,7 +26,7 @@ use Rattle.openjoc_emdf.specs.declared.ParseAnswer.the-variants as ParseAnswer
 use Rattle.openjoc_emdf.proofs.Header.{too-short, no-sync}
 use Rattle.emdf_text.specs.Lines.{ascii, line}
 use Rattle.emdfcheck.specs.Output.{recordLines, parsedLines, classLines, output}
-use Rattle.emdfcheck.specs.Parts.{isNonEmdf, recordsIn, Opened}
+use Rattle.emdfcheck.specs.Parts.{isNonEmdf, recordsIn, Printable}
 
 -- ---- refused: no carrier, or a malformed one
 
@@ -42,9 +43,9 @@ module _ (s : List ℕ) {why : EmdfError} (h : reading s ≡ refusal why) where
   unfolding classAnswer classLines
   non-emdf = refused-class (λ c. true ≡ isNonEmdf (classAnswer c) → line (ascii "nonemdf") [] ≡ classLines c) (λ e. refl) (λ e. absurd (let z : _≡_ {A = ℕ} 0 1 = cc in omega arith))
 
-  pub is-malformed : false ≡ isNonEmdf (classAnswer (classify s)) → line (ascii "malformed") (number why ∷ []) ≡ classLines (classify s)
+  pub is-malformed : false ≡ isNonEmdf (classAnswer (classify s)) → line (ascii "malformed") (figuresOf (refusalOf why) .number ∷ []) ≡ classLines (classify s)
   unfolding classAnswer classLines
-  is-malformed = refused-class (λ c. false ≡ isNonEmdf (classAnswer c) → line (ascii "malformed") (number why ∷ []) ≡ classLines c) (λ e. absurd (let z : _≡_ {A = ℕ} 0 1 = cc in omega arith)) (λ e. refl)
+  is-malformed = refused-class (λ c. false ≡ isNonEmdf (classAnswer c) → line (ascii "malformed") (figuresOf (refusalOf why) .number ∷ []) ≡ classLines c) (λ e. absurd (let z : _≡_ {A = ℕ} 0 1 = cc in omega arith)) (λ e. refl)
 
 -- ---- accepted: a carrier, and what follows it
 
@@ -113,7 +114,7 @@ module _ (s : List ℕ) (p : ParsedEmdf) (first : BitCursor) (h : openAnswer s (
       let k : o .container .key-id ≡ p .container .«key_id» = ap (λ (q : ParsedEmdf). q .container .«key_id») (o .parsed) in
       rw (class-is, o .is) (simp (eq-eqb n (length s) e, counted, le-leb count 512 f, k))
 
-  pub opened : n ≡ length s → {at size : ℕ} → at + 126 * count ≤ size → Opened s first at size
+  pub opened : n ≡ length s → {at size : ℕ} → at + 126 * count ≤ size → Printable s first at size
   opened e f = record { container = o .container; is = rw (← e) (o .is); start = rw (← e) (o .start); fit = rw counted f }
 
 -- ---- all that is printed

@@ -14,16 +14,16 @@ use Rattle.emdf_payloads.specs.declared.PayloadStep.the-variants as PayloadStep
 use Rattle.emdf_payloads.specs.Payloads.{Listed, stepAt}
 use Rattle.emdf_payloads.proofs.Walk.{listed-step, step-found}
 use Rattle.openjoc_emdf.proofs.Opening.{read-first}
-use Rattle.emdfcheck.specs.Parts.{recordsIn, Opened}
-use Rattle.emdf_text.specs.Lines.{Put}
+use Rattle.emdfcheck.specs.Parts.{recordsIn, Printable}
+use Rattle.emdf_text.specs.Lines.{Printed}
 use Rattle.emdfcheck.specs.Output.{recordLine, recordLines}
 use Rattle.emdf_text.proofs.Put.{Leaves, nothing}
 
 -- where a carrier opens, all its payloads follow
-pub all-listed : {s : List ℕ} {first : BitCursor} {at size : ℕ} (o : Opened s first at size) → Listed s first (o .container .found)
+pub all-listed : {s : List ℕ} {first : BitCursor} {at size : ℕ} (o : Printable s first at size) → Listed s first (o .container .found)
 all-listed {s} o = let l = read-first s (length s) (o .container) (o .is) .0 in rw (o .start) (rw take-length at l)
 
-pub all-records : {s : List ℕ} {first : BitCursor} {at size : ℕ} (o : Opened s first at size) → recordsIn (reading s) ≡ recordsOf (o .container .found)
+pub all-records : {s : List ℕ} {first : BitCursor} {at size : ℕ} (o : Printable s first at size) → recordsIn (reading s) ≡ recordsOf (o .container .found)
 unfolding recordsIn
 all-records o = rw (o .is)
 
@@ -50,6 +50,6 @@ module _ (s : List ℕ) (at : BitCursor) {step : PayloadStep} (i : step ≡ step
 
   -- no payload: all is printed
   pub done : (xs : List Found) {before text out : List ℕ} {start end : ℕ} → Listed s at xs → ((r : PayloadRecord) (next : BitCursor) → step ≡ PayloadStep.Payload r next → ⊥)
-      → end + 126 * length xs ≤ length out → Leaves before start text out end (recordLines (recordsOf xs)) → Put before start text out end
+      → end + 126 * length xs ≤ length out → Leaves before start text out end (recordLines (recordsOf xs)) → Printed before start text out end
   unfolding recordLines recordsOf
   done xs {before} {text} {out} {start} {end} l f h p = p _ _ (rw (none xs l f) (nothing out end (omega arith)))

@@ -5,7 +5,8 @@ use lib.ListN.{length}
 use lib.Dec.{leb}
 use Rattle.openjoc_bitio.specs.Choice.{if_then_else_}
 use Rattle.emdf_format.specs.Reading.{Container}
-use Rattle.emdf_format.specs.Calls.{number, recordsOf, Class, nonEmdf, parsed, trailingData, malformed, classify}
+use Rattle.emdf_format.specs.Refusals.{refusalOf, figuresOf}
+use Rattle.emdf_format.specs.Calls.{recordsOf, Class, nonEmdf, parsed, trailingData, malformed, classify}
 use Rattle.emdf_format.specs.declared.PayloadRecord.{PayloadRecord}
 use Rattle.emdf_text.specs.Lines.{ascii, decimal, line}
 
@@ -36,7 +37,7 @@ unfoldable pub classLines : Class → List ℕ
 classLines nonEmdf = line (ascii "nonemdf") []
 classLines (parsed n c) = parsedLines n c
 classLines (trailingData n len) = line (ascii "trailing") (n ∷ len ∷ [])
-classLines (malformed why) = line (ascii "malformed") (number why ∷ [])
+classLines (malformed why) = line (ascii "malformed") (figuresOf (refusalOf why) .number ∷ [])
 
 unfoldable pub output : List ℕ → List ℕ
 output s = if leb (length s) 65536 then classLines (classify s) else line (ascii "toolong") []

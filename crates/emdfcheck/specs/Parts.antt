@@ -23,7 +23,7 @@ recordsIn (accepted n c) = recordsOf (c .found)
 recordsIn (refusal why) = []
 
 -- s is one carrier, whose payloads start at the cursor first; their lines have room from index at on, in a text of size bytes
-pub record Opened (s : List ℕ) (first : BitCursor) (at size : ℕ) : Type 0 where
+pub record Printable (s : List ℕ) (first : BitCursor) (at size : ℕ) : Type 0 where
   pub container : Container
   pub is : reading s ≡ accepted (length s) container
   pub start : first ≡ firstPayload (length s) s

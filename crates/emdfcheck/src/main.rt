@@ -5,19 +5,20 @@ ghost use mathlib.Core.Path.{_≡_};
 ghost use lib.ListN.{length, take};
 ghost use Rattle.io.specs.Counts.{Counts};
 ghost use Rattle.emdf_format.specs.Reading.{reading, refusal};
-ghost use Rattle.emdf_format.specs.Calls.{number, classify};
+ghost use Rattle.emdf_format.specs.Refusals.{refusalOf, figuresOf};
+ghost use Rattle.emdf_format.specs.Calls.{classify};
 ghost use Rattle.openjoc_emdf.specs.Answers.{openAnswer};
 ghost use Rattle.openjoc_emdf.specs.declared.OpenAnswer.the-variants as OpenAnswer;
 ghost use Rattle.emdfcheck.specs.Output.{recordLine, recordLines, classLines, output};
-ghost use Rattle.emdf_text.specs.Lines.{Put};
-ghost use Rattle.emdfcheck.specs.Parts.{isNonEmdf, recordsIn, Opened};
+ghost use Rattle.emdf_text.specs.Lines.{Printed};
+ghost use Rattle.emdfcheck.specs.Parts.{isNonEmdf, recordsIn, Printable};
 use emdf_format::EmdfError;
 use emdf_format::PayloadRecord;
 use emdf_payloads::PayloadStep;
+use libc::STDERR_FILENO;
 use libc::STDIN_FILENO;
 use libc::STDOUT_FILENO;
 use openjoc_bitio::BitCursor;
-use openjoc_bitio::BitError;
 use openjoc_emdf::CarrierClassification;
 use openjoc_emdf::OpenAnswer;
 use openjoc_emdf::ParsedEmdf;
@@ -29,6 +30,11 @@ const MOST_BYTES: usize = 65536;
 const MOST_PAYLOADS: usize = 512;
 
 fn main() {
+    // The name of a file must not pass for the file.
+    if 1 < os::arg_count() {
+        io::write_all(STDERR_FILENO, b"usage: emdfcheck <FILE\n");
+        return;
+    }
     let mut input = input_space();
     let n = io::read_full(STDIN_FILENO, &mut input);
     let mut more = [0u8; 1];
@@ -40,7 +46,9 @@ fn main() {
     // Room for 512 lines of at most 126 bytes, and one before them.
     let mut out = io::large_buffer();
     let length = put_output(&input[..n], &mut out);
-    io::write_all(STDOUT_FILENO, &out[..length]);
+    if !io::write_all(STDOUT_FILENO, &out[..length]) {
+        os::fail(b"standard output");
+    }
 }
 
 // One byte more than the longest input has.
@@ -69,7 +77,7 @@ fn put_output(bytes: &[u8], out: &mut [u8]) -> usize
 // What isn't read is no carrier, or one that is malformed.
 fn put_refused(bytes: &[u8], why: EmdfError, out: &mut [u8]) -> usize
     requires { ⌜ (reading (now bytes) ≡ refusal why) × (65536 ≤ length (now out)) ⌝ }
-    ensures { λ r. ⌜ Put (now (out .entry)) 0 (classLines (classify (now (bytes .entry)))) (now (out .exit)) r ⌝ }
+    ensures { λ r. ⌜ Printed (now (out .entry)) 0 (classLines (classify (now (bytes .entry)))) (now (out .exit)) r ⌝ }
 {
     if is_non_emdf(openjoc_emdf::classify_emdf_carrier(bytes)) {
         return emdf_text::put_line(out, 0, b"nonemdf", &[]);
@@ -94,7 +102,7 @@ fn is_non_emdf(class: CarrierClassification) -> bool
 // A carrier that is read, and what follows it.
 fn put_opened(bytes: &[u8], parsed: ParsedEmdf, first: BitCursor, out: &mut [u8]) -> usize
     requires { ⌜ (openAnswer (now bytes) (reading (now bytes)) ≡ OpenAnswer.Open parsed first) × (65536 ≤ length (now out)) ⌝ }
-    ensures { λ r. ⌜ Put (now (out .entry)) 0 (classLines (classify (now (bytes .entry)))) (now (out .exit)) r ⌝ }
+    ensures { λ r. ⌜ Printed (now (out .entry)) 0 (classLines (classify (now (bytes .entry)))) (now (out .exit)) r ⌝ }
 {
     let n = parsed.bytes_consumed.0;
     let length = bytes.len();
@@ -112,8 +120,8 @@ fn put_opened(bytes: &[u8], parsed: ParsedEmdf, first: BitCursor, out: &mut [u8]
 
 // A line a payload, from the cursor at the first of them.
 fn put_records(bytes: &[u8], first: BitCursor, out: &mut [u8], start: usize) -> usize
-    requires { ⌜ Opened (now bytes) first start (length (now out)) ⌝ }
-    ensures { λ r. ⌜ Put (now (out .entry)) start (recordLines (recordsIn (reading (now (bytes .entry))))) (now (out .exit)) r ⌝ }
+    requires { ⌜ Printable (now bytes) first start (length (now out)) ⌝ }
+    ensures { λ r. ⌜ Printed (now (out .entry)) start (recordLines (recordsIn (reading (now (bytes .entry))))) (now (out .exit)) r ⌝ }
 {
     let mut at = first;
     let mut end = start;
@@ -134,7 +142,7 @@ fn put_records(bytes: &[u8], first: BitCursor, out: &mut [u8], start: usize) -> 
 // A payload's id, and where its parts start and its body ends: six numbers of at most 20 digits.
 fn put_record(out: &mut [u8], at: usize, payload: PayloadRecord) -> usize
     requires { ⌜ at + 126 ≤ length (now out) ⌝ }
-    ensures { λ r. ⌜ Put (now (out .entry)) at (recordLine payload) (now (out .exit)) r ⌝ }
+    ensures { λ r. ⌜ Printed (now (out .entry)) at (recordLine payload) (now (out .exit)) r ⌝ }
     ensures { λ r. ⌜ r ≤ at + 126 ⌝ }
 {
     let end = emdf_text::put_decimal(out, at, payload.id);
@@ -149,30 +157,8 @@ fn put_record(out: &mut [u8], at: usize, payload: PayloadRecord) -> usize
     emdf_text::put_line(out, end, b"", &offsets)
 }
 
-// A refusal's number in the scope.
 fn error_number(why: EmdfError) -> u64
-    ensures { λ r. ⌜ r ≡ number why ⌝ }
+    ensures { λ r. ⌜ r ≡ figuresOf (refusalOf why) .number ⌝ }
 {
-    match why {
-        EmdfError::TruncatedContainer {
-            declared: _,
-            available: _,
-        } => 1,
-        EmdfError::InvalidSyncword { actual: _ } => 2,
-        EmdfError::Bit(inner) => match inner {
-            BitError::EndOfInput {
-                requested: _,
-                remaining: _,
-            } => 3,
-            BitError::InvalidWidth { width: _ } => 4,
-        },
-        EmdfError::InvalidVariableBits { width: _, limit: _ } => 5,
-        EmdfError::VariableBitsGroupLimit { width: _, limit: _ } => 6,
-        EmdfError::ValueOverflow => 7,
-        EmdfError::UnsupportedVersion { version: _ } => 8,
-        EmdfError::NonzeroReservedData => 9,
-        EmdfError::ReservedPrimaryProtectionLength => 10,
-        EmdfError::ExcessPadding { bits: _ } => 11,
-        EmdfError::NonzeroPadding => 12,
-    }
+    emdf_refusals::figures_of(emdf_refusals::refusal_of(why)).number as u64
 }

@@ -30,7 +30,7 @@ use denote.Steps.{opens, closes, owned, peeks}
 use denote.Struct.Laws as LL
 use denote.Struct.Rest.{all-own, own-open, own-put}
 use denote.Struct.Steps.{spelt}
-use Rattle.openjoc_bit_reader.specs.Reader.{moved}
+use Rattle.openjoc_bit_reader.specs.Reader.{readerAt}
 use Rattle.openjoc_bitio.specs.declared.BitCursor.{BitCursor}
 use Rattle.openjoc_bit_reader.specs.declared.BitReader.{BitReader}
 use Rattle.openjoc_bitio.proofs.BitCursor as Q
@@ -61,8 +61,8 @@ abbrev pub CellAt : ℕ → ℕ → BitReader → Fml
 CellAt b o h = fat fullShare (T′.mir erased) b o (mach h)
 
 module _ (κ : Lft) (h : BitReader) where
-  pub fits : (c : BitCursor) → Is (row κ) h (mach h ∷ []) → Is Q.the-row c (Q′.lowered c ∷ []) → Is (row κ) (moved h c) (mach (moved h c) ∷ [])
-  fits c here is = LL.owes (T.the-type (α κ)) (T′.the-laws (α κ)) (moved h c) (LL.owed (T.the-type (α κ)) (T′.the-laws (α κ)) h _ here .0, (is, tt))
+  pub fits : (c : BitCursor) → Is (row κ) h (mach h ∷ []) → Is Q.the-row c (Q′.lowered c ∷ []) → Is (row κ) (readerAt h c) (mach (readerAt h c) ∷ [])
+  fits c here is = LL.owes (T.the-type (α κ)) (T′.the-laws (α κ)) (readerAt h c) (LL.owed (T.the-type (α κ)) (T′.the-laws (α κ)) h _ here .0, (is, tt))
 
   module _ {M : Type 1} (𝓤 : URA M) (H : Heap 𝓤) (A : Atoms 𝓤) (W : Given 𝓤 H A) where
     twice : ent 𝓤 (sem 𝓤 H A (Own κ h)) (sep 𝓤 (sem 𝓤 H A (Own κ h)) (sem 𝓤 H A (Own κ h)))
@@ -73,7 +73,7 @@ module _ (κ : Lft) (h : BitReader) where
         qed W (‵ (Own κ h) ∷ []) ∵ use1 W (‵ (Own κ h) ⊛ ‵ (Own κ h)) twice $ split ! $
         use1 W (given (mach h ∷ [] ≡ mach h ∷ []) (‵ (Parts κ h))) (own-open 𝓤 H A W (T.the-type (α κ)) (T′.the-laws (α κ)) (h .bytes, (h .cursor, tt)) (mach h)) $ learn ! (λ _. done !)
 
-    pub again : (c : BitCursor) → Is Q.the-row c (Q′.lowered c ∷ []) → ent 𝓤 (sem 𝓤 H A (Own κ h)) (sem 𝓤 H A (Own κ (moved h c)))
+    pub again : (c : BitCursor) → Is Q.the-row c (Q′.lowered c ∷ []) → ent 𝓤 (sem 𝓤 H A (Own κ h)) (sem 𝓤 H A (Own κ (readerAt h c)))
     again c is =
         qed W (‵ (Own κ h) ∷ []) ∵ owned ! Q.the-row (Is Q.the-row) (LL.makes Q.the-type Q′.the-plain 𝓤 H A) c _ is $ move ! (1 ∷ 0 ∷ []) $ by ! (own-put 𝓤 H A W (T.the-type (α κ)) (T′.the-laws (α κ)) 1 (h .bytes, (h .cursor, tt)) c (mach h))
 
@@ -130,9 +130,9 @@ module _ {M : Type 1} {𝓤 : URA M} {H : Heap 𝓤} {A : Atoms 𝓤} {K : Type 
       opens t z R {h = v .h} (v .b) (v .o) (λ vs. spelt t R (Is R) (shows 𝓤 H A R) (LL.vals T L) (LL.tells T L) fullShare (v .h) vs (v .b) (v .o) $
       use1 W (‵ (CellAt (v .b) (v .o) (v .h))) (W .laws .raw-at fullShare (T′.mir erased) (v .b) (v .o) (mach (v .h))) $ move t (1 ∷ []) $ peeks t R (Is R) (shows 𝓤 H A R) (v .h) (mach (v .h) ∷ []) k)
 
-  pub closes-reader : K → Soaks G → (v : Lent) (c : BitCursor) → Is Q.the-row c (Q′.lowered c ∷ []) → Step K W (Shut 𝓤 v (moved (v .h) c) (‵ (Own (v .κ′) (v .h)) ∷ Γ)) G (Token 𝓤 v ∷ Open 𝓤 v (moved (v .h) c) Γ) G
+  pub closes-reader : K → Soaks G → (v : Lent) (c : BitCursor) → Is Q.the-row c (Q′.lowered c ∷ []) → Step K W (Shut 𝓤 v (readerAt (v .h) c) (‵ (Own (v .κ′) (v .h)) ∷ Γ)) G (Token 𝓤 v ∷ Open 𝓤 v (readerAt (v .h) c) Γ) G
   closes-reader t z v c is = step (λ s.
-      let h′ = moved (v .h) c in
+      let h′ = readerAt (v .h) c in
       move t (1 ∷ []) $ use1 W (‵ (Own (v .κ′) (v .h)) ⊛ ‵ (Own (v .κ′) (v .h))) (twice (v .κ′) (v .h) 𝓤 H A W) $ split t $ use1 W (‵ (Own (v .κ′) h′)) (again (v .κ′) (v .h) 𝓤 H A W c is) $
       -- [what the reader owns at c; what it owned; the token of 'a; its cell; the open borrow; obs; auth; …]
       move t (3 ∷ 0 ∷ 4 ∷ 5 ∷ 6 ∷ []) $ use1 W (‵ (cellAt fullShare (row (v .κ′) .mir) (mach h′ ∷ []) (v .b) (v .o))) (W .laws .at-raw fullShare (T′.mir erased) (v .b) (v .o) (mach h′)) $

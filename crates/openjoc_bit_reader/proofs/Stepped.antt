@@ -46,7 +46,7 @@ use denote.Triple.End.{Kepts, Fins}
 use denote.Triple.Entry.{onEntry}
 use denote.Triple.Spec.{Meets, tripleOf}
 use denote.Triple.Walked.{Stays, stay-ref, fitsOf, hasOf, onExit, walkOf, ends-at, AllGo, goes-ref, walked}
-use Rattle.openjoc_bit_reader.specs.Reader.{moved}
+use Rattle.openjoc_bit_reader.specs.Reader.{readerAt}
 use Rattle.openjoc_bitio.specs.declared.BitCursor.{BitCursor}
 use Rattle.openjoc_bit_reader.proofs.Held.{α, row, mach, bytesOf, Own, Parts, copied, Lent, lfts, shares, lent, pointer, passed, behind, Tokens, Token, Open, Shut, opens-reader, closes-reader}
 use Rattle.openjoc_bit_reader.proofs.Walk.{asks, hears, by-walk}
@@ -130,7 +130,7 @@ module _ (c : Stepper) {M : Type 1} (𝓤 : URA M) (H : Heap 𝓤) (A : Atoms �
         → ((r : c .P .D) → Opd K W (Token 𝓤 v ∷ Open 𝓤 v (v .h) (Locals (Stepped r) Γ)) E y (Q′.lowered (c .cursor r)))
         → ((r : c .P .D) → Is (rowOf (c .P)) r (LL.val (c .P) (c .L) r ∷ []) → Is Q.the-row (c .cursor r) (Q′.lowered (c .cursor r) ∷ []))
         → ((r : c .P .D) → r ≡ c .g (v .κ′, tt) (now (v .h .bytes)) (v .h .cursor) ys → Is (rowOf (c .P)) r (LL.val (c .P) (c .L) r ∷ []) → Is (row (v .κ′)) (v .h) (mach (v .h) ∷ [])
-        → Seq K W (Shut 𝓤 v (moved (v .h) (c .cursor r)) (‵ (Own (v .κ′) (v .h)) ∷ Locals (Stepped r) Γ)) (runs C Λ E rest p))
+        → Seq K W (Shut 𝓤 v (readerAt (v .h) (c .cursor r)) (‵ (Own (v .κ′) (v .h)) ∷ Locals (Stepped r) Γ)) (runs C Λ E rest p))
         → Seq K W (‵ (fat fullShare τ ls zero (pointer v)) ∷ ‵ (froom slice lb zero) ∷ ‵ (froom Q′.mir lc zero) ∷ ‵ (froom π lm zero) ∷ ‵ (MutRef (named 0) (v .κ) (row (v .κ′)) .own (lent v) (pointer v ∷ [])) ∷ Tokens 𝓤 v ∷ Γ)
         (runs C Λ E (stepping i j k m f xs y rest) p)
     steps t fm known made ei ej ek em more next cursor-is cont =
@@ -168,7 +168,7 @@ module _ (m : Method) where
   module _ {M : Type 1} (𝓤 : URA M) (cl : Clauses 𝓤 promised) where
     -- what the contract says of a call that gives r and leaves the reader at the cursor c
     abbrev pub Claim : (v : Lent) (xs : Denots (typesAt (m .ss) (lfts v))) → cl (lfts v) (lent v, xs) .ghost → m .ρ .row (lfts v) .Denot → BitCursor → Fins (lfts v) (m .ss) (m .ks) xs → SProp 𝓤
-    Claim v xs gh r c ws = cl (lfts v) (lent v, xs) .ensures gh r (atExit promised (lfts v) (lent v, xs) (moved (v .h) c, ws))
+    Claim v xs gh r c ws = cl (lfts v) (lent v, xs) .ensures gh r (atExit promised (lfts v) (lent v, xs) (readerAt (v .h) c, ws))
 
     module _ (H : Heap 𝓤) (A : Atoms 𝓤) (W : Given 𝓤 H A) (v : Lent) (bounds : AllOutlive 2 (promised .signature .outlives) (lfts v)) (xs : Denots (typesAt (m .ss) (lfts v))) (vss : Valss (typesAt (m .ss) (lfts v))) (gh : cl (lfts v) (lent v, xs) .ghost) where
       abbrev at : walkOf 𝓤 H A promised stayed cl .Ghost
@@ -176,10 +176,10 @@ module _ (m : Method) where
 
       pub ends : (ws : Fins (lfts v) (m .ss) (m .ks) xs) → fitsOf (lfts v) (m .ss) (m .ks) (m .hs) xs ws → ent 𝓤 (emp 𝓤) (sem 𝓤 H A (hasOf (lfts v) (m .ss) (m .ks) (m .hs) xs ws vss))
           → (r : m .ρ .row (lfts v) .Denot) (u : Val) (c : BitCursor) → ent 𝓤 (emp 𝓤) (Claim v xs gh r c ws) → (Γ : List (Item 𝓤)) → ent 𝓤 (⋆ 𝓤 H A Γ) (sem 𝓤 H A (m .ρ .row (lfts v) .own r (u ∷ [])))
-          → ent 𝓤 (⋆ 𝓤 H A (Shut 𝓤 v (moved (v .h) c) Γ)) (walkOf 𝓤 H A promised stayed cl .post at u)
+          → ent 𝓤 (⋆ 𝓤 H A (Shut 𝓤 v (readerAt (v .h) c) Γ)) (walkOf 𝓤 H A promised stayed cl .post at u)
       ends ws fits had r u c claim Γ own =
-          let P = onExit 𝓤 H A promised stayed (lfts v) (shares v) (pointer v ∷ [], vss) u r (lent v, xs) (moved (v .h) c, ws) in
-          qed W (Shut 𝓤 v (moved (v .h) c) Γ) ∵ suffices ! _ (ends-at 𝓤 H A promised stayed cl W at u r (moved (v .h) c, ws) (tt, fits)) $ suffices ! P (via 𝓤 (sep 𝓤 P (emp 𝓤)) (asks 𝓤 P) (monoR 𝓤 P claim)) $
+          let P = onExit 𝓤 H A promised stayed (lfts v) (shares v) (pointer v ∷ [], vss) u r (lent v, xs) (readerAt (v .h) c, ws) in
+          qed W (Shut 𝓤 v (readerAt (v .h) c) Γ) ∵ suffices ! _ (ends-at 𝓤 H A promised stayed cl W at u r (readerAt (v .h) c, ws) (tt, fits)) $ suffices ! P (via 𝓤 (sep 𝓤 P (emp 𝓤)) (asks 𝓤 P) (monoR 𝓤 P claim)) $
           move ! (2 ∷ 3 ∷ []) $ join ! $ frame ! $ feqI ! (List Val) (pointer v ∷ []) (pointer v ∷ []) refl $ fjoin3 ! $ use0 W (‵ (hasOf (lfts v) (m .ss) (m .ks) (m .hs) xs ws vss)) had $ move ! (1 ∷ 0 ∷ []) $ fjoin ! $ frame ! $ by ! own
 
     module _ (H : Heap 𝓤) (c : Stepper) (f : Name) (e : Fn) where

@@ -61,11 +61,11 @@ abbrev pub opened : RefT (List ℕ) → BitReader
 opened x = record { bytes = x; cursor = wholeSlice (now x) }
 
 -- the reader r with its cursor at c
-abbrev pub moved : BitReader → BitCursor → BitReader
-moved r c = record { bytes = r .bytes; cursor = c }
+abbrev pub readerAt : BitReader → BitCursor → BitReader
+readerAt r c = record { bytes = r .bytes; cursor = c }
 
-abbrev pub remaining : BitReader → ℕ
-remaining r = bitsRemaining (now (r .bytes)) (r .cursor)
+abbrev pub readerRemaining : BitReader → ℕ
+readerRemaining r = bitsRemaining (now (r .bytes)) (r .cursor)
 
 abbrev pub bitsRead : BitReader → ℕ → BitsStep
 bitsRead r n = bitsStep (now (r .bytes)) (r .cursor) n
@@ -81,4 +81,4 @@ aligned r = alignStep (now (r .bytes)) (r .cursor)
 
 -- what take_bits hands back
 abbrev pub window : BitReader → ℕ → BitWindow
-window r n = record { reader = moved r (windowTaken r n .window); result = windowTaken r n .result }
+window r n = record { reader = readerAt r (windowTaken r n .window); result = windowTaken r n .result }

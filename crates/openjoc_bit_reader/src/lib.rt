@@ -1,6 +1,6 @@
 // A reader that holds its bytes: the Rust's BitReader, over the cursor of openjoc_bitio.
 ghost use mathlib.Core.Path.{_≡_};
-ghost use Rattle.openjoc_bit_reader.specs.Reader.{bitsStep, bitStep, windowStep, alignStep, opened, moved, remaining, bitsRead, bitRead, windowTaken, window, aligned};
+ghost use Rattle.openjoc_bit_reader.specs.Reader.{bitsStep, bitStep, windowStep, alignStep, opened, readerAt, readerRemaining, bitsRead, bitRead, windowTaken, window, aligned};
 use openjoc_bitio::AlignAnswer;
 use openjoc_bitio::BitAnswer;
 use openjoc_bitio::BitCursor;
@@ -138,13 +138,13 @@ impl<'a> BitReader<'a> {
     }
 
     pub fn bits_remaining(&self) -> usize
-        ensures { λ n. ⌜ n ≡ remaining (now (self .entry)) ⌝ }
+        ensures { λ n. ⌜ n ≡ readerRemaining (now (self .entry)) ⌝ }
     {
         self.cursor.bits_remaining(self.bytes)
     }
 
     pub fn read_bits(&mut self, n: u8) -> BitsResult
-        ensures { λ r. ⌜ (r ≡ bitsRead (now (self .entry)) n .result) × (now (self .exit) ≡ moved (now (self .entry)) (bitsRead (now (self .entry)) n .cursor)) ⌝ }
+        ensures { λ r. ⌜ (r ≡ bitsRead (now (self .entry)) n .result) × (now (self .exit) ≡ readerAt (now (self .entry)) (bitsRead (now (self .entry)) n .cursor)) ⌝ }
     {
         let step = bits_step(self.bytes, self.cursor, n);
         self.cursor = step.cursor;
@@ -152,7 +152,7 @@ impl<'a> BitReader<'a> {
     }
 
     pub fn read_bit(&mut self) -> BitResult
-        ensures { λ r. ⌜ (r ≡ bitRead (now (self .entry)) .result) × (now (self .exit) ≡ moved (now (self .entry)) (bitRead (now (self .entry)) .cursor)) ⌝ }
+        ensures { λ r. ⌜ (r ≡ bitRead (now (self .entry)) .result) × (now (self .exit) ≡ readerAt (now (self .entry)) (bitRead (now (self .entry)) .cursor)) ⌝ }
     {
         let step = bit_step(self.bytes, self.cursor);
         self.cursor = step.cursor;
@@ -160,7 +160,7 @@ impl<'a> BitReader<'a> {
     }
 
     pub fn take_bits(&mut self, count: usize) -> BitWindow<'a>
-        ensures { λ r. ⌜ (r ≡ window (now (self .entry)) count) × (now (self .exit) ≡ moved (now (self .entry)) (windowTaken (now (self .entry)) count .cursor)) ⌝ }
+        ensures { λ r. ⌜ (r ≡ window (now (self .entry)) count) × (now (self .exit) ≡ readerAt (now (self .entry)) (windowTaken (now (self .entry)) count .cursor)) ⌝ }
     {
         let bytes = self.bytes;
         let step = window_step(bytes, self.cursor, count);
@@ -175,7 +175,7 @@ impl<'a> BitReader<'a> {
     }
 
     pub fn byte_align(&mut self) -> MoveResult
-        ensures { λ r. ⌜ (r ≡ aligned (now (self .entry)) .result) × (now (self .exit) ≡ moved (now (self .entry)) (aligned (now (self .entry)) .cursor)) ⌝ }
+        ensures { λ r. ⌜ (r ≡ aligned (now (self .entry)) .result) × (now (self .exit) ≡ readerAt (now (self .entry)) (aligned (now (self .entry)) .cursor)) ⌝ }
     {
         let step = align_step(self.bytes, self.cursor);
         self.cursor = step.cursor;

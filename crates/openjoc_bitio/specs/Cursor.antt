@@ -1,21 +1,16 @@
 -- What each call at a cursor answers: the scope, 'Bits', and its questions 3 and 4. Assumes nothing.
 use Prim.Native.Nat.{ℕ, _+_, _-_, _*_, _%_, _^_}
-use mathlib.Core.List.{List, [], _∷_}
+use mathlib.Core.List.{List}
 use mathlib.Core.Bool.{not}
 use lib.ListN.{length}
 use lib.Dec.{eqb, leb, ltb}
 use Rattle.openjoc_bitio.specs.Choice.{if_then_else_}
 use Rattle.openjoc_bitio.specs.Bits.{bitAt, bitsValue}
-use Rattle.openjoc_bitio.specs.declared.BitCursor.{BitCursor}
-use Rattle.openjoc_bitio.specs.declared.BitError.{BitError}
+use Rattle.openjoc_bitio.specs.Types.{BitCursor, BitError, BitsAnswer, BitAnswer, WindowAnswer, AlignAnswer}
 use Rattle.openjoc_bitio.specs.declared.BitError.the-variants.{InvalidWidth, EndOfInput}
-use Rattle.openjoc_bitio.specs.declared.BitsAnswer.{BitsAnswer}
 use Rattle.openjoc_bitio.specs.declared.BitsAnswer.the-variants as BitsAnswer
-use Rattle.openjoc_bitio.specs.declared.BitAnswer.{BitAnswer}
 use Rattle.openjoc_bitio.specs.declared.BitAnswer.the-variants as BitAnswer
-use Rattle.openjoc_bitio.specs.declared.WindowAnswer.{WindowAnswer}
 use Rattle.openjoc_bitio.specs.declared.WindowAnswer.the-variants as WindowAnswer
-use Rattle.openjoc_bitio.specs.declared.AlignAnswer.{AlignAnswer}
 use Rattle.openjoc_bitio.specs.declared.AlignAnswer.the-variants as AlignAnswer
 
 -- the bits that a cursor can count in s: none where they are 2^64 or more
@@ -66,12 +61,3 @@ byteAlign s c =
     if leb (toByte (c .position)) (bitsRemaining s c)
     then AlignAnswer.Aligned (past c (toByte (c .position)))
     else AlignAnswer.Refused (EndOfInput (toByte (c .position)) (bitsRemaining s c))
-
--- the scope's number for a refusal, and its figures
-abbrev pub number : BitError → ℕ
-number (EndOfInput n r) = 3
-number (InvalidWidth w) = 4
-
-unfoldable pub figures : BitError → List ℕ
-figures (EndOfInput n r) = n ∷ r ∷ []
-figures (InvalidWidth w) = w ∷ []

@@ -1,3 +1,4 @@
+pub mod Types
 pub mod Choice
 pub mod Bits
 pub mod Cursor

@@ -14,12 +14,9 @@ use Rattle.emdf_fields.specs.declared.FieldAnswer.{FieldAnswer}
 use Rattle.emdf_fields.specs.declared.FieldAnswer.the-variants as FieldAnswer
 use Rattle.emdf_container.specs.declared.ContainerAnswer.{ContainerAnswer}
 use Rattle.emdf_container.specs.declared.ContainerAnswer.the-variants as ContainerAnswer
-use Rattle.openjoc_emdf.specs.declared.ParsedEmdf.{ParsedEmdf}
-use Rattle.openjoc_emdf.specs.declared.ParseAnswer.{ParseAnswer}
+use Rattle.openjoc_emdf.specs.Types.{ParsedEmdf, ParseAnswer, OpenAnswer, CarrierClassification}
 use Rattle.openjoc_emdf.specs.declared.ParseAnswer.the-variants as ParseAnswer
-use Rattle.openjoc_emdf.specs.declared.OpenAnswer.{OpenAnswer}
 use Rattle.openjoc_emdf.specs.declared.OpenAnswer.the-variants as OpenAnswer
-use Rattle.openjoc_emdf.specs.declared.CarrierClassification.{CarrierClassification}
 use Rattle.openjoc_emdf.specs.declared.CarrierClassification.the-variants as CarrierClassification
 use Rattle.emdf_fields.specs.Fields.{fieldAnswer}
 use Rattle.emdf_payloads.specs.Payloads.{Listed}

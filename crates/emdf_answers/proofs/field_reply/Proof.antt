@@ -12,8 +12,8 @@ accepted-at-requires c κs = search needs
 enum-known-answer-2 : tie.Need-enum-known-answer-2
 enum-known-answer-2 c = search needs
 
-emdf-refused-at-requires : tie.Need-emdf-refused-at-requires
-emdf-refused-at-requires c κs = search needs
+refused-at-requires : tie.Need-refused-at-requires
+refused-at-requires c κs = search needs
 
 returns : tie.Need-returns
 unfolding fieldReply
@@ -21,7 +21,7 @@ returns c = rw (c .before .before .answer .given .1) (c .accepted-at .ensures)
 
 returns-2 : tie.Need-returns-2
 unfolding fieldReply
-returns-2 c = rw (c .before .before .answer2 .given .1) (c .emdf-refused-at .ensures)
+returns-2 c = rw (c .before .before .answer2 .given .1) (c .refused-at .ensures)
 
 pub field-reply-spec : {M : Type 1} → statement M
 field-reply-spec =
@@ -30,6 +30,6 @@ field-reply-spec =
     enum-known-answer
     accepted-at-requires
     enum-known-answer-2
-    emdf-refused-at-requires
+    refused-at-requires
     returns
     returns-2)

@@ -1,5 +1,5 @@
 use mathlib.Core.Path.{refl}
-use Rattle.emdf_answers.specs.Carriers.{padded}
+use Rattle.emdf_answers.specs.Replies.{padded}
 use Rattle.emdf_answers.proofs.figure_words.Statement.{statement}
 use Rattle.emdf_answers.proofs.figure_words.Tie as tie
 

@@ -1,6 +1,6 @@
 use borrow.Author.Needs.{needs}
-use Rattle.emdf_answers.specs.Verdict.{verdictWords}
-use Rattle.emdf_answers.proofs.Verdict.{refused-words}
+use Rattle.emdf_answers.specs.Verdict.{verdictReply}
+use Rattle.emdf_answers.specs.Replies.{padded}
 use Rattle.emdf_answers.proofs.verdict_words.Statement.{statement}
 use Rattle.emdf_answers.proofs.verdict_words.Tie as tie
 
@@ -16,16 +16,19 @@ status-word-requires c κs = search needs
 enum-known-judged-2 : tie.Need-enum-known-judged-2
 enum-known-judged-2 c = search needs
 
-profile-figures-requires : tie.Need-profile-figures-requires
-profile-figures-requires c κs = search needs
+profile-refusal-requires : tie.Need-profile-refusal-requires
+profile-refusal-requires c κs = search needs
+
+figures-of-requires : tie.Need-figures-of-requires
+figures-of-requires c κs = search needs
 
 returns : tie.Need-returns
-unfolding verdictWords
+unfolding verdictReply
 returns c = rw (c .before .before .before .judged .given .1, c .status-word .ensures)
 
 returns-2 : tie.Need-returns-2
-unfolding verdictWords
-returns-2 c = rw (c .before .before .judged2 .given .1) (refused-words _ (c .profile-figures .ensures))
+unfolding verdictReply padded
+returns-2 c = rw (c .before .before .before .judged2 .given .1, ← c .before .profile-refusal .ensures, c .figures-of .ensures)
 
 pub verdict-words-spec : {M : Type 1} → statement M
 verdict-words-spec =
@@ -35,6 +38,7 @@ verdict-words-spec =
     cast-t9
     status-word-requires
     enum-known-judged-2
-    profile-figures-requires
+    profile-refusal-requires
+    figures-of-requires
     returns
     returns-2)

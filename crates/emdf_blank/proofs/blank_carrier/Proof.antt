@@ -8,7 +8,7 @@ use lib.Seq.{length-take-le}
 use Rattle.emdf_format.specs.Edits.{carrierLength}
 use Rattle.emdf_format.proofs.Standing.{fails, holds}
 use Rattle.emdf_measure.specs.Parts.{writableProtection}
-use Rattle.emdf_blank.specs.Blank.{blankContents}
+use Rattle.emdf_format.specs.Edits.{blankContents}
 use Rattle.emdf_blank.proofs.Blank.{writable-short, not-writable, no-room, in-room}
 use Rattle.emdf_field_writer.proofs.Written.{front-written}
 use Rattle.emdf_blank.proofs.blank_carrier.Statement.{statement}
@@ -17,7 +17,7 @@ use Rattle.emdf_blank.proofs.blank_carrier.Tie as tie
 ok : (c : tie.Else1) → let a = c .before .before .before .before .before .args in writableProtection (now (a .primary)) (now (a .secondary)) ≡ true
 ok c = holds (c .if1 .left) (c .before .writable-protection .ensures)
 
-size : (c : tie.After-blank-declared) → let a = c .before .before .before .before .before .before .args in 4 + c .blank-declared .result ≡ carrierLength (blankContents (a .key) (now (a .primary)) (now (a .secondary)))
+size : (c : tie.After-blank-declared) → let a = c .before .before .before .before .before .before .args in 4 + c .blank-declared .result .0 ≡ carrierLength (blankContents (a .key) (now (a .primary)) (now (a .secondary)))
 size c = omega (arith, c .blank-declared .ensures .0)
 
 writable-protection-requires : tie.Need-writable-protection-requires
@@ -36,8 +36,9 @@ add-n c = search needs
 
 returns-2 : tie.Need-returns-2
 returns-2 c =
-    let a = c .before .before .before .before .before .before .before .args in
-    no-room (a .key) _ _ _ (omega arith) (ok (c .before .before)) _ (size (c .before)) (c .if2 .taken)
+    let d = c .before .before in
+    let a = d .before .before .before .before .before .before .args in
+    no-room (a .key) _ _ _ (omega arith) (ok (d .before)) _ (size d) (c .if2 .taken)
 
 slice-relend-prefix-put-blank : tie.Need-slice-relend-prefix-put-blank
 slice-relend-prefix-put-blank c = search needs
@@ -47,7 +48,7 @@ slice-aggregate-put-blank c = sym (length-take-le _ _ (c .before .if2 .left))
 
 put-blank-requires : tie.Need-put-blank-requires
 put-blank-requires c κs =
-    let d = c .before .before .blank-declared .ensures in
+    let d = c .before .before .before .blank-declared .ensures in
     (d .0, length-take-le _ _ (c .before .if2 .left), d .1)
 
 same-length : tie.Need-same-length
@@ -55,11 +56,11 @@ same-length c = search needs
 
 returns-3 : tie.Need-returns-3
 returns-3 c =
-    let d = c .before .before .before .before .before in
-    let a = c .before .before .before .before .before .before .before .before .before .before .before .args in
+    let d = c .before .before .before .before .before .before in
+    let a = d .before .before .before .before .before .before .args in
     let room = c .before .before .before .before .if2 .left in
     in-room (a .key) _ _ _ (omega arith) (ok (d .before)) _ (size d) room
-    (front-written _ _ _ _ (size d) room (λ k. c .before .before .before .before .before .before .before .before .slice-known .given k .fits) (λ k. c .slice-known2 .given k .fits) (c .before .before .put-blank .ensures .1))
+    (front-written _ _ _ _ (size d) room (λ k. d .before .before .before .slice-known .given k .fits) (λ k. c .slice-known2 .given k .fits) (c .before .before .put-blank .ensures .1))
 
 pub blank-carrier-spec : {M : Type 1} → statement M
 blank-carrier-spec =

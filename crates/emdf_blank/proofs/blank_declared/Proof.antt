@@ -28,8 +28,8 @@ mul-bits c = search needs
 add-bits-4 : tie.Need-add-bits-4
 add-bits-4 c = omega (arith, few c)
 
-add-result : tie.Need-add-result
-add-result c = omega (arith, few c)
+add-t5 : tie.Need-add-t5
+add-t5 c = omega (arith, few c)
 
 returns : tie.Need-returns
 unfolding declared neededBits neededPayloads
@@ -45,5 +45,5 @@ blank-declared-spec =
     add-bits-3
     mul-bits
     add-bits-4
-    add-result
+    add-t5
     returns)

@@ -5,8 +5,7 @@ use native.Mathlib.Omega.{arith}
 use lib.ListN.{length}
 use lib.Seq.{length-take-le}
 use denote.Ref.{now}
-use Rattle.emdf_format.specs.Edits.{Edit}
-use Rattle.emdf_plan.specs.Plan.{editOf, newBits}
+use Rattle.emdf_plan.specs.Plan.{newBits}
 use Rattle.emdf_edit.specs.Cuts.{Within}
 use Rattle.emdf_plan.proofs.Spliced.{Spliceable, plan-splice}
 use Rattle.emdf_edit.proofs.Edited.{refused, within, room, spliced-answer}
@@ -16,15 +15,12 @@ use Rattle.emdf_edit.proofs.apply.Tie as tie
 abbrev start : tie.After-plan → tie.Start
 start c = c .before .before .before .before .before .before .before
 
-abbrev edit : tie.Start → Edit
-edit k = editOf (k .args .request) (now (k .args .octets)) (now (k .args .secondary))
-
-planned : (c : tie.After-plan) → let k = start c in Spliceable (edit k) (now (k .args .source)) (length (now (k .args .destination))) (c .plan .given .0 .0)
-planned c = plan-splice _ _ _ _ (λ k. c .before .before .before .before .before .before .shared-slice-known .given k .fits) (sym (c .before .before .plan-edit .ensures) ∙ c .plan .given .1)
+planned : (c : tie.After-plan) → let k = start c in Spliceable (k .args .request) (now (k .args .octets)) (now (k .args .secondary)) (now (k .args .source)) (length (now (k .args .destination))) (c .plan .given .0 .0)
+planned c = plan-splice _ _ _ _ _ _ (λ k. c .before .before .before .before .before .before .shared-slice-known .given k .fits) (sym (c .before .before .plan-edit .ensures) ∙ c .plan .given .1)
 
 -- the carrier fits into the destination, and the cut lies in the source
-ready : (c : tie.After-plan) → let k = start c in (4 + c .plan .given .0 .0 .size .0 ≤ length (now (k .args .destination))) × Within (now (k .args .source)) (c .plan .given .0 .0) (newBits (edit k))
-ready c = let k = start c in let p = planned c in (room (edit k) _ (now (k .args .destination)) p, within (edit k) _ (now (k .args .destination)) p)
+ready : (c : tie.After-plan) → let k = start c in (4 + c .plan .given .0 .0 .size .0 ≤ length (now (k .args .destination))) × Within (now (k .args .source)) (c .plan .given .0 .0) (newBits (k .args .request) (now (k .args .octets)) (now (k .args .secondary)))
+ready c = let k = start c in let p = planned c in (room _ _ _ _ (now (k .args .destination)) p, within _ _ _ _ (now (k .args .destination)) p)
 
 plan-edit-requires : tie.Need-plan-edit-requires
 plan-edit-requires c κs = search needs
@@ -53,10 +49,10 @@ same-length c = search needs
 returns : tie.Need-returns
 returns c =
     let p = planned (c .before .before .before .before .before .before .before) in
-    spliced-answer _ _ _ p _ refl (λ k. c .before .before .before .before .before .before .before .before .before .before .slice-known .given k .fits) (λ k. c .slice-known2 .given k .fits) (c .before .before .put-splice .ensures .1)
+    spliced-answer _ _ _ _ _ p _ refl (λ k. c .before .before .before .before .before .before .before .before .before .before .slice-known .given k .fits) (λ k. c .slice-known2 .given k .fits) (c .before .before .put-splice .ensures .1)
 
 returns-2 : tie.Need-returns-2
-returns-2 c = refused _ _ _ (sym (c .before .before .before .plan-edit .ensures) ∙ c .before .plan2 .given .1)
+returns-2 c = refused _ _ _ _ _ (sym (c .before .before .before .plan-edit .ensures) ∙ c .before .plan2 .given .1)
 
 pub apply-spec : {M : Type 1} → statement M
 apply-spec =

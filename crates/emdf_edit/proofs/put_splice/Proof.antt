@@ -1,5 +1,5 @@
 use borrow.Author.Needs.{needs}
-use Prim.Native.Nat.{_+_, _-_, _*_}
+use Prim.Native.Nat.{_+_, _-_, _*_, _<_}
 use native.Mathlib.Omega.{arith}
 use Rattle.openjoc_bitio.proofs.Bits.{length-number}
 use Rattle.emdf_field_writer.proofs.Putting.{then-put}
@@ -19,6 +19,10 @@ run c = c .before .before .before .before
 
 abbrev new : tie.After-put-run2 → tie.After-put-new
 new c = c .before .before .before .before .before .before
+
+-- the size that is declared is small
+small : (c : tie.After-put-run2) → let k = start (sync (run (new c))) in k .args .cut .size .0 < 65536
+small c = start (sync (run (new c))) .pre .0 .small
 
 put-sync-requires : tie.Need-put-sync-requires
 put-sync-requires c κs = let k = c .before .before .before .before .before .before .before .before .before in omega (arith, k .pre .1, splice-sizes (k .pre .0))
@@ -51,14 +55,14 @@ put-run-requires-2 c κs =
     omega (arith, k .pre .1, splice-sizes (k .pre .0), a .put-sync .ensures .0, a .put-sync .kept .0, b .put-run .ensures .0, b .put-run .kept .0, d .put-new .ensures .0, d .put-new .kept .0)
 
 add-put-field : tie.Need-add-put-field
-add-put-field c = search needs
+add-put-field c = omega (arith, small (c .before .before .before .before))
 
 mul-put-field : tie.Need-mul-put-field
-mul-put-field c = search needs
+mul-put-field c = omega (arith, small (c .before .before .before .before))
 
 sub-put-field : tie.Need-sub-put-field
 sub-put-field c =
-    let e = c .before .before .before .before in
+    let e = c .before .before .before .before .before in
     let d = new e in
     let b = run d in
     let a = sync b in
@@ -67,24 +71,24 @@ sub-put-field c =
 
 put-field-requires : tie.Need-put-field-requires
 put-field-requires c κs =
-    let e = c .before .before .before .before in
+    let e = c .before .before .before .before .before in
     let d = new e in
     let b = run d in
     let a = sync b in
     let k = start a in
-    omega (arith, k .pre .1, splice-sizes (k .pre .0), length-number ((4 + k .args .cut .size .0) * 8 - e .put-run2 .result) 0, a .put-sync .ensures .0, a .put-sync .kept .0, b .put-run .ensures .0, b .put-run .kept .0, d .put-new .ensures .0, d .put-new .kept .0, e .put-run2 .ensures .0, e .put-run2 .kept .0)
+    omega (arith, k .pre .1, splice-sizes (k .pre .0), length-number ((4 + k .args .cut .size .0) * 8 - e .put-run2 .result .0) 0, a .put-sync .ensures .0, a .put-sync .kept .0, b .put-run .ensures .0, b .put-run .kept .0, d .put-new .ensures .0, d .put-new .kept .0, e .put-run2 .ensures .0, e .put-run2 .kept .0)
 
 same-length : tie.Need-same-length
 same-length c = search needs
 
 returns : tie.Need-returns
 returns c =
-    let e = c .before .before .before .before .before .before .before in
+    let e = c .before .before .before .before .before .before .before .before in
     let d = new e in
     let b = run d in
     let a = sync b in
     let k = start a in
-    rw (← splice-bits (k .pre .0) (e .put-run2 .result) (omega (arith, splice-sizes (k .pre .0), a .put-sync .ensures .0, b .put-run .ensures .0, d .put-new .ensures .0, e .put-run2 .ensures .0)))
+    rw (← splice-bits (k .pre .0) (e .put-run2 .result .0) (omega (arith, splice-sizes (k .pre .0), a .put-sync .ensures .0, b .put-run .ensures .0, d .put-new .ensures .0, e .put-run2 .ensures .0)))
     (then-put _ _ _ _ _ _ (a .put-sync .ensures) (then-put _ _ _ _ _ _ (b .put-run .ensures) (then-put _ _ _ _ _ _ (d .put-new .ensures) (then-put _ _ _ _ _ _ (e .put-run2 .ensures) (c .before .before .put-field .ensures)))))
 
 pub put-splice-spec : {M : Type 1} → statement M

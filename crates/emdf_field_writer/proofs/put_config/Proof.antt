@@ -9,7 +9,7 @@ use Rattle.emdf_field_writer.proofs.put_config.Tie as tie
 
 -- the room left for the codec flag and the settings after it
 after-timing : (c : tie.After-put-timing) → let t = c .before .before .before .args .t in
-    Room (c .put-timing .last .0) (c .put-timing .result) (codecDataBits (t .«codec_data_present») ⨟ controlsBits t)
+    Room (c .put-timing .last .0) (c .put-timing .result .0) (codecDataBits (t .«codec_data_present») ⨟ controlsBits t)
 after-timing c = room-next _ _ _ _ _ (room-same _ (config-parts _) (c .before .before .before .pre)) (c .put-timing .ensures) (c .put-timing .kept .0)
 
 put-timing-requires : tie.Need-put-timing-requires

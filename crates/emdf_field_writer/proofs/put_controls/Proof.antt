@@ -24,17 +24,17 @@ abbrev after-discard : EmdfPayloadConfig → List ℕ
 after-discard t = presentField (numberBits 1) (t .«payload_frame_aligned») ⨟ after-aligned t
 
 -- the room for it
-room-discard : (c : tie.After-put-field) → Room (c .put-field .last .0) (c .put-field .result) (after-discard (c .before .before .before .args .t))
+room-discard : (c : tie.After-put-field) → Room (c .put-field .last .0) (c .put-field .result .0) (after-discard (c .before .before .before .args .t))
 unfolding controlsBits
 room-discard c = room-next _ _ _ _ _ (c .before .before .before .pre) (c .put-field .ensures) (c .put-field .kept .0)
 
-room-aligned : (c : tie.After-put-present) → Room (c .put-present .last .0) (c .put-present .result) (after-aligned (c .before .before .before .before .before .before .before .args .t))
+room-aligned : (c : tie.After-put-present) → Room (c .put-present .last .0) (c .put-present .result .0) (after-aligned (c .before .before .before .before .before .before .before .args .t))
 room-aligned c = room-next _ _ _ _ _ (room-discard (c .before .before .before .before)) (c .put-present .ensures) (c .put-present .kept .0)
 
-room-create : (c : tie.After-put-present2) → Room (c .put-present2 .last .0) (c .put-present2 .result) (after-create (c .before .before .before .before .before .before .before .before .before .before .before .args .t))
+room-create : (c : tie.After-put-present2) → Room (c .put-present2 .last .0) (c .put-present2 .result .0) (after-create (c .before .before .before .before .before .before .before .before .before .before .before .args .t))
 room-create c = room-next _ _ _ _ _ (room-aligned (c .before .before .before .before)) (c .put-present2 .ensures) (c .put-present2 .kept .0)
 
-room-remove : (c : tie.After-put-present3) → Room (c .put-present3 .last .0) (c .put-present3 .result) (after-remove (c .before .before .before .before .before .before .before .before .before .before .before .before .before .before .before .args .t))
+room-remove : (c : tie.After-put-present3) → Room (c .put-present3 .last .0) (c .put-present3 .result .0) (after-remove (c .before .before .before .before .before .before .before .before .before .before .before .before .before .before .before .args .t))
 room-remove c = room-next _ _ _ _ _ (room-create (c .before .before .before .before)) (c .put-present3 .ensures) (c .put-present3 .kept .0)
 
 put-field-requires : tie.Need-put-field-requires

@@ -8,7 +8,7 @@ use Rattle.emdf_field_writer.proofs.put_header.Statement.{statement}
 use Rattle.emdf_field_writer.proofs.put_header.Tie as tie
 
 -- the room left after the sync word and the length
-after-sync : (c : tie.After-put-sync) → Room (c .put-sync .last .0) (c .put-sync .result) (numberBits 2 0 ⨟ extendedField 3 (c .before .before .before .args .key))
+after-sync : (c : tie.After-put-sync) → Room (c .put-sync .last .0) (c .put-sync .result .0) (numberBits 2 0 ⨟ extendedField 3 (c .before .before .before .args .key))
 unfolding headerBits
 after-sync c = room-next _ _ _ _ _ (c .before .before .before .pre) (c .put-sync .ensures) (c .put-sync .kept .0)
 

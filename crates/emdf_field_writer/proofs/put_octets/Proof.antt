@@ -13,16 +13,16 @@ mul-n c = omega (arith, length-octets (now (c .before .before .args .s)))
 copy-bits-requires : tie.Need-copy-bits-requires
 copy-bits-requires c κs = search needs
 
-add-result : tie.Need-add-result
-add-result c = omega (arith, length-octets (now (c .before .before .before .before .before .before .args .s)))
+add-t5 : tie.Need-add-t5
+add-t5 c = omega (arith, length-octets (now (c .before .before .before .before .before .before .before .args .s)))
 
 same-length : tie.Need-same-length
 same-length c = search needs
 
 returns : tie.Need-returns
 returns c =
-    let e = c .before .before .before .before .before .before in
-    (omega (arith, length-octets (now (e .args .s))), c .before .before .copy-bits .ensures ∙ octets-fit _ _ _ (e .pre))
+    let e = c .before .before .before .before .before .before .before in
+    (omega (arith, length-octets (now (e .args .s))), c .before .before .before .copy-bits .ensures .1 ∙ octets-fit _ _ _ (e .pre))
 
 pub put-octets-spec : {M : Type 1} → statement M
-put-octets-spec = tie.close (tie.spec mul-n copy-bits-requires add-result same-length returns)
+put-octets-spec = tie.close (tie.spec mul-n copy-bits-requires add-t5 same-length returns)

@@ -11,7 +11,7 @@ use Rattle.emdf_field_writer.proofs.put_payload.Tie as tie
 
 -- the room left after the id
 after-id : (c : tie.After-put-extended) → let a = c .before .before .before .before .args in
-    Room (c .put-extended .last .0) (c .put-extended .result) (configBits (a .config) ⨟ variableField 8 (length (now (a .body))) ⨟ octetBits (now (a .body)))
+    Room (c .put-extended .last .0) (c .put-extended .result .0) (configBits (a .config) ⨟ variableField 8 (length (now (a .body))) ⨟ octetBits (now (a .body)))
 unfolding payloadBits
 after-id c = room-next _ _ _ _ _ (c .before .before .before .before .pre) (c .put-extended .ensures) (c .put-extended .kept .0)
 

@@ -10,7 +10,7 @@ use Rattle.emdf_field_writer.proofs.put_sample_offset.Statement.{statem
 use Rattle.emdf_field_writer.proofs.put_sample_offset.Tie as tie
 
 -- the room left after the flag
-after-flag : (c : tie.After-put-field2) → Room (c .put-field2 .last .0) (c .put-field2 .result) (numberBits 11 (c .before .before .before .o .given .0 .0) ⨟ numberBits 1 0)
+after-flag : (c : tie.After-put-field2) → Room (c .put-field2 .last .0) (c .put-field2 .result .0) (numberBits 11 (c .before .before .before .o .given .0 .0) ⨟ numberBits 1 0)
 after-flag c =
     let d = c .before .before .before in
     room-next _ _ _ _ _ (room-same _ (offset-set (d .o .given .1)) (d .before .before .before .pre)) (c .put-field2 .ensures) (c .put-field2 .kept .0)

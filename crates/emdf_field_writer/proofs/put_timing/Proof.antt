@@ -8,7 +8,7 @@ use Rattle.emdf_field_writer.proofs.put_timing.Tie as tie
 
 -- the room left after the sample offset
 after-offset : (c : tie.After-put-sample-offset) → let t = c .before .before .before .args .t in
-    Room (c .put-sample-offset .last .0) (c .put-sample-offset .result) (flaggedField (variableField 11) (t .duration) ⨟ flaggedField (variableField 2) (t .«group_id»))
+    Room (c .put-sample-offset .last .0) (c .put-sample-offset .result .0) (flaggedField (variableField 11) (t .duration) ⨟ flaggedField (variableField 2) (t .«group_id»))
 unfolding timingBits
 after-offset c = room-next _ _ _ _ _ (c .before .before .before .pre) (c .put-sample-offset .ensures) (c .put-sample-offset .kept .0)
 

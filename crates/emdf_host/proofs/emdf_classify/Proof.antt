@@ -1,7 +1,6 @@
 use borrow.Author.Needs.{needs}
 use mathlib.Core.Path.{ap, _∙_}
 use Rattle.emdf_answers.specs.Form.{words}
-use Rattle.emdf_answers.specs.Carriers.{classNumber, classWords}
 use Rattle.emdf_rows.proofs.Stored.{words-whole}
 use Rattle.emdf_host.proofs.emdf_classify.Statement.{statement}
 use Rattle.emdf_host.proofs.emdf_classify.Tie as tie
@@ -24,7 +23,7 @@ class-number-requires c κs = search needs
 returns : tie.Need-returns
 returns c =
     let k = c .before .before .before .before .before .classify-emdf-carrier .ensures in
-    (c .class-number .ensures ∙ ap classNumber k, c .before .put-words .ensures ∙ words-whole _ _ (search needs) ∙ ap words (c .before .before .before .before .class-words .ensures ∙ ap classWords k))
+    rw (← k) (c .class-number .ensures, c .before .put-words .ensures ∙ words-whole _ _ (search needs) ∙ ap words (c .before .before .before .before .class-words .ensures))
 
 pub emdf-classify-spec : {M : Type 1} → statement M
 emdf-classify-spec =

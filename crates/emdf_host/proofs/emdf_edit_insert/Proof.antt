@@ -18,7 +18,7 @@ returns : tie.Need-returns
 returns c =
     let m = c .before .before .before .before .insert-payload .ensures in
     let t = c .before .before .before .before .before .before .settings-of .ensures in
-    rw (← t, ← m .0) (c .put-edited .ensures .0, c .put-edited .ensures .1, m .1)
+    rw (← t, ← m .0) (c .put-edited .ensures, m .1)
 
 pub emdf-edit-insert-spec : {M : Type 1} → statement M
 emdf-edit-insert-spec =

@@ -18,7 +18,7 @@ returns : tie.Need-returns
 returns c =
     let m = c .before .before .before .before .replace-settings .ensures in
     let t = c .before .before .before .before .before .before .settings-of .ensures in
-    rw (← t, ← m .0) (c .put-edited .ensures .0, c .put-edited .ensures .1, m .1)
+    rw (← t, ← m .0) (c .put-edited .ensures, m .1)
 
 pub emdf-edit-settings-spec : {M : Type 1} → statement M
 emdf-edit-settings-spec =

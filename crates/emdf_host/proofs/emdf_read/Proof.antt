@@ -19,14 +19,11 @@ open-carrier-requires c κs = search needs
 enum-known-a : tie.Need-enum-known-a
 enum-known-a c = search needs
 
-with-figures-requires : tie.Need-with-figures-requires
-with-figures-requires c κs = search needs
-
 put-refusal-requires : tie.Need-put-refusal-requires
 put-refusal-requires c κs = search needs
 
 returns : tie.Need-returns
-returns c = let b = c .before .before .before in refused-table _ _ (opening (b .before .before)) (b .if1 .taken) (c .before .with-figures .ensures) (c .put-refusal .ensures)
+returns c = let b = c .before .before in refused-table _ _ (opening (b .before .before)) (b .if1 .taken) (c .put-refusal .ensures)
 
 slice-aggregate-put-rows : tie.Need-slice-aggregate-put-rows
 slice-aggregate-put-rows c = sym (length-take-le _ _ (opened _ (opening (c .before .before .before .before)) .there))
@@ -43,9 +40,6 @@ put-nine-requires c κs = search needs
 enum-known-a-2 : tie.Need-enum-known-a-2
 enum-known-a-2 c = search needs
 
-emdf-figures-requires : tie.Need-emdf-figures-requires
-emdf-figures-requires c κs = search needs
-
 put-refusal-requires-2 : tie.Need-put-refusal-requires-2
 put-refusal-requires-2 c κs = search needs
 
@@ -60,8 +54,8 @@ returns-2 c =
 
 returns-3 : tie.Need-returns-3
 returns-3 c =
-    let a = c .before .before .before .before in
-    refused-carrier _ _ (sym (a .before .before .open-carrier .ensures) ∙ a .a2 .given .1) (c .before .emdf-figures .ensures) (c .put-refusal2 .ensures)
+    let a = c .before .before .before in
+    refused-carrier _ _ (sym (a .before .before .open-carrier .ensures) ∙ a .a2 .given .1) (c .put-refusal2 .ensures)
 
 pub emdf-read-spec : {M : Type 1} → statement M
 emdf-read-spec =
@@ -69,7 +63,6 @@ emdf-read-spec =
     (tie.spec
     open-carrier-requires
     enum-known-a
-    with-figures-requires
     put-refusal-requires
     returns
     slice-aggregate-put-rows
@@ -77,7 +70,6 @@ emdf-read-spec =
     parsed-words-requires
     put-nine-requires
     enum-known-a-2
-    emdf-figures-requires
     put-refusal-requires-2
     same-length
     returns-2

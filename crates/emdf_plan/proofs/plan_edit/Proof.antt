@@ -21,7 +21,7 @@ returns : tie.Need-returns
 returns c = search needs
 
 returns-2 : tie.Need-returns-2
-returns-2 c = unread _ _ _ (unopened _ (sym (c .before .before .before .open-carrier .ensures) ∙ c .before .why .given .1))
+returns-2 c = unread _ _ _ _ _ (unopened _ (sym (c .before .before .before .open-carrier .ensures) ∙ c .before .why .given .1))
 
 pub plan-edit-spec : {M : Type 1} → statement M
 plan-edit-spec =

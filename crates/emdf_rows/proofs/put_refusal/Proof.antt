@@ -1,6 +1,13 @@
 use borrow.Author.Needs.{needs}
+use Rattle.emdf_answers.specs.Carriers.{readReply}
 use Rattle.emdf_rows.proofs.put_refusal.Statement.{statement}
 use Rattle.emdf_rows.proofs.put_refusal.Tie as tie
+
+records-refusal-requires : tie.Need-records-refusal-requires
+records-refusal-requires c κs = search needs
+
+figures-of-requires : tie.Need-figures-of-requires
+figures-of-requires c κs = search needs
 
 figure-words-requires : tie.Need-figure-words-requires
 figure-words-requires c κs = search needs
@@ -9,7 +16,12 @@ put-nine-requires : tie.Need-put-nine-requires
 put-nine-requires c κs = search needs
 
 returns : tie.Need-returns
-returns c = rw (← c .before .figure-words .ensures) (c .put-nine .ensures)
+unfolding readReply
+returns c =
+    let w = c .before .figure-words .ensures in
+    let f = c .before .before .before .figures-of .ensures in
+    let e = c .before .before .before .before .records-refusal .ensures in
+    rw (← e, ← f, ← w) (c .put-nine .ensures)
 
 pub put-refusal-spec : {M : Type 1} → statement M
-put-refusal-spec = tie.close (tie.spec figure-words-requires put-nine-requires returns)
+put-refusal-spec = tie.close (tie.spec records-refusal-requires figures-of-requires figure-words-requires put-nine-requires returns)

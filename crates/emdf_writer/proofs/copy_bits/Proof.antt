@@ -43,7 +43,8 @@ same-length-2 c = search needs
 returns-3 : tie.Need-returns-3
 returns-3 c =
     let d = c .before .before .before .before in
-    c .before .before .copy-run .ensures ∙ run-in _ _ _ _ _ (there (d .before .before .before)) (room d)
+    let h = run-in _ _ _ _ _ (there (d .before .before .before)) (room d) in
+    (h .0, c .before .before .copy-run .ensures ∙ h .1)
 
 pub copy-bits-spec : {M : Type 1} → statement M
 copy-bits-spec =

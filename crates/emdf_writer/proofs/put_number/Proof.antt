@@ -28,7 +28,8 @@ same-length-2 c = search needs
 returns-3 : tie.Need-returns-3
 returns-3 c =
     let d = c .before .before .before .before in
-    c .before .before .put-parts .ensures ∙ number-in _ _ _ _ (d .before .before .before .if1 .left) (sym (d .before .has-bits .ensures) ∙ not-false _ (d .if2 .left))
+    let h = number-in _ _ _ _ (d .before .before .before .if1 .left) (sym (d .before .has-bits .ensures) ∙ not-false _ (d .if2 .left)) in
+    (h .0, c .before .before .put-parts .ensures ∙ h .1)
 
 pub put-number-spec : {M : Type 1} → statement M
 put-number-spec =

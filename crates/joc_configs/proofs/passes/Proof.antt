@@ -1,5 +1,5 @@
 use borrow.Author.Needs.{needs}
-use Rattle.emdf_format.specs.Profile.{lets}
+use Rattle.emdf_format.specs.Profile.{allows}
 use Rattle.joc_configs.specs.Settings.{passesAs}
 use Rattle.joc_configs.proofs.passes.Statement.{statement}
 use Rattle.joc_configs.proofs.passes.Tie as tie
@@ -21,11 +21,11 @@ differs-requires : tie.Need-differs-requires
 differs-requires c κs = search needs
 
 returns-2 : tie.Need-returns-2
-unfolding passesAs lets
+unfolding passesAs allows
 returns-2 c = rw (← c .before .before .before .meets-wanted .ensures, c .before .before .if1 .left, c .enum-told .given .1)
 
 returns-3 : tie.Need-returns-3
-unfolding passesAs lets
+unfolding passesAs allows
 returns-3 c = rw (← c .before .before .before .before .before .meets-wanted .ensures, c .before .before .before .before .if1 .left, c .before .before .allowed .given .1, c .differs .ensures)
 
 pub passes-spec : {M : Type 1} → statement M

@@ -34,7 +34,7 @@ use denote.Triple.Entry.{onEntry}
 use denote.Triple.Spec.{tripleOf}
 use denote.Triple.Walked.{says, Stays, stay-none-ref, walkOf, goes-none-ref, ends-at, walked}
 use denote.Exit.{yes}
-use Rattle.openjoc_bit_reader.specs.Reader.{remaining}
+use Rattle.openjoc_bit_reader.specs.Reader.{readerRemaining}
 use Rattle.openjoc_bit_reader.proofs.Held.{α, row, mach, bytesOf, Own, Parts, copied, Lent, lfts, shares, lent, pointer, passed, behind, Tokens, Token}
 use Rattle.openjoc_bit_reader.proofs.Walk.{asks, hears, by-walk}
 use Rattle.openjoc_bitio.proofs.BitCursor.Laws as Q′
@@ -74,7 +74,7 @@ module _ {M : Type 1} (𝓤 : URA M) (H : Heap 𝓤) (A : Atoms 𝓤) (mem : Mem
         -- [what bytes and cursor own; what the reader owns; the token]: the callee takes the cursor first
         fsplit ! $ move ! (1 ∷ []) $ fsplit ! $ move ! (2 ∷ 1 ∷ []) $ fjoin ! $ move ! (1 ∷ 0 ∷ []) $ fjoin ! $ move ! (2 ∷ 0 ∷ []) $ use2 W (raw (Called .pre to)) (asks 𝓤 _) $ frame ! $ done !
 
-    exits : (r : ℕ) (u : Val) → r ≡ remaining (v .h) → Is usize r (u ∷ []) → ent 𝓤 (⋆ 𝓤 H A (‵ (flft (v .κ) (v .q)) ∷ Token 𝓤 v ∷ ‵ (fres (v .γ) (R .coded .code (v .h))) ∷ ‵ (fshr-bor (v .κ) (λ s. partAt R s (v .h) (v .b) (v .o))) ∷ [])) (walkOf 𝓤 H A this.ended stayed (this.clauses 𝓤 H A mem run) .post at u)
+    exits : (r : ℕ) (u : Val) → r ≡ readerRemaining (v .h) → Is usize r (u ∷ []) → ent 𝓤 (⋆ 𝓤 H A (‵ (flft (v .κ) (v .q)) ∷ Token 𝓤 v ∷ ‵ (fres (v .γ) (R .coded .code (v .h))) ∷ ‵ (fshr-bor (v .κ) (λ s. partAt R s (v .h) (v .b) (v .o))) ∷ [])) (walkOf 𝓤 H A this.ended stayed (this.clauses 𝓤 H A mem run) .post at u)
     exits r u e is =
         qed W (‵ (flft (v .κ) (v .q)) ∷ Token 𝓤 v ∷ ‵ (fres (v .γ) (R .coded .code (v .h))) ∷ ‵ (fshr-bor (v .κ) (λ s. partAt R s (v .h) (v .b) (v .o))) ∷ []) ∵
         suffices ! _ (ends-at 𝓤 H A this.ended stayed (this.clauses 𝓤 H A mem run) W at u r (tt, tt) (tt, tt)) $ says ! e $
@@ -97,7 +97,7 @@ module _ {M : Type 1} (𝓤 : URA M) (H : Heap 𝓤) (A : Atoms 𝓤) (mem : Mem
         assigns ! (of-opd ! (load ! (from ! (hop ! (look ! 11 refl) (fld ! refl (stop !)))) (look-in ! 0 (sub ! 0 refl (whole !))))) (from ! (stop !)) (init ! 7 refl (tt, wt .1 .0)) $
         move ! (1 ∷ 4 ∷ []) $ use2 W (raw (Called .pre to) ⊛ ‵ (Own (v .κ′) (v .h))) apart $ split ! $
         calls-at ! fm Called known to (and-then ! (load ! (from ! (stop !)) (look ! 9 refl)) (and-then ! (load ! (from ! (stop !)) (look ! 7 refl)) (no-more !))) (λ u.
-        hears ! tt step.ended (step.clauses 𝓤 H A mem run) to u (λ r. r ≡ remaining (v .h)) (λ r e. id⊢ 𝓤 _) (λ r e is.
+        hears ! tt step.ended (step.clauses 𝓤 H A mem run) to u (λ r. r ≡ readerRemaining (v .h)) (λ r e. id⊢ 𝓤 _) (λ r e is.
         land ! (from ! (stop !)) (init ! 13 refl (uint-lawful 𝓤 H A W w64 .typed r _ is .0)) $
         -- [the token of 'a; what the reader owns; a share of its cell; what shuts it; the fractured borrow; res; true; _3; …; …]
         move ! (2 ∷ []) $ use1 W (‵ (cellAt p (R .mir) (mach (v .h) ∷ []) (v .b) (v .o))) (W .laws .at-raw p (T′.mir erased) (v .b) (v .o) (mach (v .h))) $ move ! (0 ∷ 2 ∷ 3 ∷ []) $ shuts ! tt R p (v .h) (mach (v .h) ∷ []) (v .b) (v .o) $

@@ -29,7 +29,7 @@ use denote.Enum.Laws as EL
 use denote.Struct.Laws as LL
 use denote.Struct.Rest.{own-shut}
 use denote.Triple.Walked.{stay-none, goes-none}
-use Rattle.openjoc_bit_reader.specs.Reader.{moved, windowStep, windowTaken}
+use Rattle.openjoc_bit_reader.specs.Reader.{readerAt, windowStep, windowTaken}
 use Rattle.openjoc_bit_reader.specs.declared.BitReader.{BitReader}
 use Rattle.openjoc_bit_reader.specs.declared.BitWindow.{BitWindow}
 use Rattle.openjoc_bit_reader.specs.declared.WindowStep.{WindowStep}
@@ -61,7 +61,7 @@ method = record { ρ = plain (λ κs. X.the-row (α (κs .1 .0))); ss = numbers 
 
 -- what is handed back for the step r at the reader h
 abbrev back : BitReader → WindowStep → BitWindow
-back h r = record { reader = moved h (r .window); result = r .result }
+back h r = record { reader = readerAt h (r .window); result = r .result }
 
 module _ (κ : Lft) (h : BitReader) (r : WindowStep) (is : Is P.the-row r (LL.val P.the-type P′.the-laws r ∷ [])) where
   window-is : Is Q.the-row (r .window) (Q′.lowered (r .window) ∷ [])
@@ -78,12 +78,12 @@ module _ (κ : Lft) (h : BitReader) (r : WindowStep) (is : Is P.the-row r (LL.va
 
   back-owns : {M : Type 1} (𝓤 : URA M) (H : Heap 𝓤) (A : Atoms 𝓤) (W : Given 𝓤 H A) → ent 𝓤 (sem 𝓤 H A (Own κ h)) (sem 𝓤 H A (X.the-row (α κ) .own (back h r) (val ∷ [])))
   back-owns 𝓤 H A W =
-      qed W (‵ (Own κ h) ∷ []) ∵ use1 W (‵ (Own κ (moved h (r .window)))) (again κ h 𝓤 H A W (r .window) window-is) $
-      nothing ! $ owned ! S.the-row (Is S.the-row) (EL.makes S.the-type S′.the-plain 𝓤 H A) (r .result) _ result-is $ fjoin ! $ move ! (1 ∷ 0 ∷ []) $ fjoin ! $ by ! (own-shut 𝓤 H A W (X.the-type (α κ)) (X′.the-laws (α κ)) (moved h (r .window), (r .result, tt)))
+      qed W (‵ (Own κ h) ∷ []) ∵ use1 W (‵ (Own κ (readerAt h (r .window)))) (again κ h 𝓤 H A W (r .window) window-is) $
+      nothing ! $ owned ! S.the-row (Is S.the-row) (EL.makes S.the-type S′.the-plain 𝓤 H A) (r .result) _ result-is $ fjoin ! $ move ! (1 ∷ 0 ∷ []) $ fjoin ! $ by ! (own-shut 𝓤 H A W (X.the-type (α κ)) (X′.the-laws (α κ)) (readerAt h (r .window), (r .result, tt)))
 
 module _ {M : Type 1} (𝓤 : URA M) (H : Heap 𝓤) (A : Atoms 𝓤) (W : Given 𝓤 H A) (mem : Memory → SProp 𝓤) (run : Routine → Fun 𝓤) where
   claim : (v : Lent) (n : ℕ) (r : WindowStep) → r ≡ windowTaken (v .h) n → ent 𝓤 (emp 𝓤) (Claim method 𝓤 (this.clauses 𝓤 H A mem run) v (n, tt) tt (back (v .h) r) (r .cursor) (tt, tt))
-  claim v n r e = factI 𝓤 _ (emp 𝓤) (ap (back (v .h)) e, ap (λ (s : WindowStep). moved (v .h) (s .cursor)) e)
+  claim v n r e = factI 𝓤 _ (emp 𝓤) (ap (back (v .h)) e, ap (λ (s : WindowStep). readerAt (v .h) (s .cursor)) e)
 
   walk : Walking method 𝓤 (this.clauses 𝓤 H A mem run) H step #step code.function (λ _. (uint-vals w64, tt)) A W
   walk v bounds xs gh are C Λ fm known = let n = xs .0 in
@@ -94,7 +94,7 @@ module _ {M : Type 1} (𝓤 : URA M) (H : Heap 𝓤) (A : Atoms 𝓤) (W : Given
       steps step 𝓤 H A v (n, tt) (vint w64 n ∷ [], tt) _ l₁ l₃ l₅ l₄ ! fm known (number 𝓤 H A W w64 n (are .0 .1)) refl refl refl refl (and-then ! (load ! (from ! (stop !)) (look ! 15 refl)) (no-more !)) (λ r. load ! (from ! (fld ! refl (stop !))) (look-in ! 9 (sub ! 2 refl (whole !)))) (λ r is. LL.owed P.the-type P′.the-laws r _ is .1 .1 .0) (λ r e is here.
       -- [the borrow, closed, and the tokens: four; what the reader owns; _1; _3; _5; _4; room for _6; what frees _6, _5, _4 and _3; _2; …; what frees _1; room for _0; …]
       assigns ! (agg ! (and-then ! (load ! (from ! (stop !)) (look ! 6 refl)) (and-then ! (load ! (from ! (fld ! refl (stop !))) (look-in ! 8 (sub ! 1 refl (whole !)))) (no-more !)))) (from ! (stop !))
-      (init ! 9 refl (LL.lawful (T.the-type (α (v .κ′))) (T′.the-laws (α (v .κ′))) 𝓤 H A W .typed (moved (v .h) (r .window)) _ (fits (v .κ′) (v .h) (r .window) here (window-is (v .κ′) (v .h) r is)) .0)) $
+      (init ! 9 refl (LL.lawful (T.the-type (α (v .κ′))) (T′.the-laws (α (v .κ′))) 𝓤 H A W .typed (readerAt (v .h) (r .window)) _ (fits (v .κ′) (v .h) (r .window) here (window-is (v .κ′) (v .h) r is)) .0)) $
       assigns ! (agg ! (and-then ! (load ! (from ! (stop !)) (look ! 9 refl)) (and-then ! (load ! (from ! (fld ! refl (stop !))) (look-in ! 8 (sub ! 0 refl (whole !)))) (no-more !)))) (from ! (stop !))
       (init ! 17 refl (LL.lawful (X.the-type (α (v .κ′))) (X′.the-laws (α (v .κ′))) 𝓤 H A W .typed (back (v .h) r) _ (back-is (v .κ′) (v .h) r is here) .0)) $
       returns ! (look ! 17 refl) $ forget ! 5 refl $ forget ! 6 refl $ forget ! 7 refl $ forget ! 8 refl $ forget ! 9 refl $ forget ! 14 refl $ forget ! 17 refl $

@@ -1,0 +1,22 @@
+-- The types of this crate's code, for definitions and proofs. Assumes nothing.
+pub use Rattle.emdf_format.specs.declared.EmdfError.{EmdfError}
+pub use Rattle.emdf_format.specs.declared.Refusal.{Refusal}
+pub use Rattle.emdf_format.specs.declared.Figures.{Figures}
+pub use Rattle.emdf_format.specs.declared.Optional.{Optional}
+pub use Rattle.emdf_format.specs.declared.EmdfPayloadConfig.{EmdfPayloadConfig}
+pub use Rattle.emdf_format.specs.declared.EmdfPayloadBitTrace.{EmdfPayloadBitTrace}
+pub use Rattle.emdf_format.specs.declared.PayloadRecord.{PayloadRecord}
+pub use Rattle.emdf_format.specs.declared.RecordsError.{RecordsError}
+pub use Rattle.emdf_format.specs.declared.BodyError.{BodyError}
+pub use Rattle.emdf_format.specs.declared.BodyAnswer.{BodyAnswer}
+pub use Rattle.emdf_format.specs.declared.JocValidationProfile.{JocValidationProfile}
+pub use Rattle.emdf_format.specs.declared.PlacedConfig.{PlacedConfig}
+pub use Rattle.emdf_format.specs.declared.JocRole.{JocRole}
+pub use Rattle.emdf_format.specs.declared.JocProfileValue.{JocProfileValue}
+pub use Rattle.emdf_format.specs.declared.AllowedDeviation.{AllowedDeviation}
+pub use Rattle.emdf_format.specs.declared.JocProfileField.{JocProfileField}
+pub use Rattle.emdf_format.specs.declared.JocValidationStatus.{JocValidationStatus}
+pub use Rattle.emdf_format.specs.declared.JocProfileError.{JocProfileError}
+pub use Rattle.emdf_format.specs.declared.JocProfileAnswer.{JocProfileAnswer}
+pub use Rattle.emdf_format.specs.declared.EditError.{EditError}
+pub use Rattle.emdf_format.specs.declared.EditAnswer.{EditAnswer}

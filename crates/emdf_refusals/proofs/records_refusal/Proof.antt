@@ -1,0 +1,22 @@
+use borrow.Author.Needs.{needs}
+use Rattle.emdf_refusals.proofs.records_refusal.Statement.{statement}
+use Rattle.emdf_refusals.proofs.records_refusal.Tie as tie
+
+enum-known-why : tie.Need-enum-known-why
+enum-known-why c = search needs
+
+refusal-of-requires : tie.Need-refusal-of-requires
+refusal-of-requires c κs = search needs
+
+enum-known-why-2 : tie.Need-enum-known-why-2
+enum-known-why-2 c = search needs
+
+returns : tie.Need-returns
+returns c = search needs
+
+returns-2 : tie.Need-returns-2
+returns-2 c = rw (c .before .why2 .given .1)
+
+pub records-refusal-spec : {M : Type 1} → statement M
+records-refusal-spec =
+    tie.close (tie.spec enum-known-why refusal-of-requires enum-known-why-2 returns returns-2)
