@@ -20,9 +20,10 @@ use Rattle.emdf_format.proofs.Splice.{⨟-assoc}
 use Rattle.emdf_writer.specs.Writing.{bitRun}
 use Rattle.emdf_plan.specs.declared.Cut.{Cut}
 use Rattle.emdf_plan.specs.declared.Plan.the-variants as Plan
-use Rattle.emdf_plan.specs.Plan.{editOf, newBits, planOf, spliced}
+use Rattle.emdf_request.specs.Requests.{editOf, newBits}
+use Rattle.emdf_plan.specs.Plan.{planOf, spliced}
 use Rattle.emdf_field_writer.specs.Fields.{syncBits}
-use Rattle.emdf_plan.specs.declared.Request.{Request}
+use Rattle.emdf_request.specs.declared.Request.{Request}
 use Rattle.emdf_edit.specs.Cuts.{keptBits, Within}
 use Rattle.emdf_edit.specs.Sequences.{Called}
 use Rattle.emdf_field_writer.proofs.Written.{front-written}

@@ -3,7 +3,8 @@ ghost use mathlib.Core.Path.{_≡_};
 ghost use Prim.Native.Nat.{_+_, _*_, _^_, _<_, _≤_};
 ghost use lib.ListN.{length};
 ghost use Rattle.emdf_format.specs.Edits.{bodyEdit, settingsEdit, dropEdit, insertEdit, keyEdit, protectionEdit};
-ghost use Rattle.emdf_plan.specs.Plan.{editOf, newBits, spliced};
+ghost use Rattle.emdf_request.specs.Requests.{editOf, newBits};
+ghost use Rattle.emdf_plan.specs.Plan.{spliced};
 ghost use Rattle.emdf_field_writer.specs.Fields.{Room, Put};
 ghost use Rattle.emdf_edit.specs.Sequences.{Called};
 ghost use Rattle.emdf_edit.specs.Cuts.{Within};
@@ -12,7 +13,7 @@ use emdf_format::EditError;
 use emdf_format::EmdfPayloadConfig;
 use emdf_plan::Cut;
 use emdf_plan::Plan;
-use emdf_plan::Request;
+use emdf_request::Request;
 use openjoc_bitio::BitOffset;
 use openjoc_bitio::ByteCount;
 

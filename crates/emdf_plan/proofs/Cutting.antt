@@ -16,9 +16,10 @@ use Rattle.emdf_format.proofs.Standing.{T-of, length-then, stands-to}
 use Rattle.emdf_format.proofs.Lengths.{length-extended, length-payload, length-payloads, length-container}
 use Rattle.emdf_format.proofs.Carrier.{read-contained}
 use Rattle.emdf_format.proofs.Splice.{Splice, listBits, bitsBefore, splice-body, splice-settings, splice-drop, splice-insert, splice-key, splice-protection, Parts, located, payload-at}
-use Rattle.emdf_plan.specs.declared.Request.{Request}
-use Rattle.emdf_plan.specs.declared.Request.the-variants as Request
-use Rattle.emdf_plan.specs.Plan.{editOf, stretchOf, bringing, newBits, traceAt, layoutOf, edgeAt}
+use Rattle.emdf_request.specs.declared.Request.{Request}
+use Rattle.emdf_request.specs.declared.Request.the-variants as Request
+use Rattle.emdf_request.specs.Requests.{editOf, stretchOf, bringing, newBits}
+use Rattle.emdf_plan.specs.Plan.{traceAt, layoutOf, edgeAt}
 
 -- the edit that a request asks for is the splice of its stretch
 pub record Cutting (q : Request) (a b : List ℕ) (k : Container) : Type 0 where

@@ -23,11 +23,12 @@ use Rattle.emdf_format.proofs.Lists.{carried, changes}
 use Rattle.emdf_format.proofs.Splice.{Splice as SpliceOf, ⨟-assoc}
 use Rattle.emdf_writer.specs.Writing.{bitRun}
 use Rattle.emdf_plan.specs.declared.Cut.{Cut}
-use Rattle.emdf_plan.specs.declared.Stretch.{Stretch}
+use Rattle.emdf_request.specs.declared.Stretch.{Stretch}
 use Rattle.emdf_plan.specs.declared.Layout.{Layout}
-use Rattle.emdf_plan.specs.declared.Request.{Request}
+use Rattle.emdf_request.specs.declared.Request.{Request}
+use Rattle.emdf_request.specs.Requests.{editOf, stretchOf, newBits}
 use Rattle.emdf_plan.specs.declared.Plan.the-variants.{Splice, Refused}
-use Rattle.emdf_plan.specs.Plan.{editOf, stretchOf, newBits, laid, cutAt, planned, planFrom, planOf, spliced}
+use Rattle.emdf_plan.specs.Plan.{laid, cutAt, planned, planFrom, planOf, spliced}
 use Rattle.emdf_plan.proofs.Cutting.{splice-lengths, as-many, cutting}
 
 -- ---- the bits of a carrier around a cut

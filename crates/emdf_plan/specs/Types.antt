@@ -1,8 +1,4 @@
 -- The types of this crate's code, for definitions and proofs. Assumes nothing.
-pub use Rattle.emdf_plan.specs.declared.Request.{Request}
 pub use Rattle.emdf_plan.specs.declared.Layout.{Layout}
-pub use Rattle.emdf_plan.specs.declared.Edge.{Edge}
-pub use Rattle.emdf_plan.specs.declared.Stretch.{Stretch}
-pub use Rattle.emdf_plan.specs.declared.Brought.{Brought}
 pub use Rattle.emdf_plan.specs.declared.Cut.{Cut}
 pub use Rattle.emdf_plan.specs.declared.Plan.{Plan}

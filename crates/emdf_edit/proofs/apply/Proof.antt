@@ -5,7 +5,7 @@ use native.Mathlib.Omega.{arith}
 use lib.ListN.{length}
 use lib.Seq.{length-take-le}
 use denote.Ref.{now}
-use Rattle.emdf_plan.specs.Plan.{newBits}
+use Rattle.emdf_request.specs.Requests.{newBits}
 use Rattle.emdf_edit.specs.Cuts.{Within}
 use Rattle.emdf_plan.proofs.Spliced.{Spliceable, plan-splice}
 use Rattle.emdf_edit.proofs.Edited.{refused, within, room, spliced-answer}

@@ -1,6 +1,6 @@
 use borrow.Author.Needs.{needs}
 use native.Mathlib.Omega.{arith}
-use Rattle.emdf_plan.specs.Plan.{bringing}
+use Rattle.emdf_request.specs.Requests.{bringing}
 use Rattle.emdf_field_writer.proofs.Putting.{none-put}
 use Rattle.emdf_edit.proofs.put_new.Statement.{statement}
 use Rattle.emdf_edit.proofs.put_new.Tie as tie

@@ -6,10 +6,11 @@ use denote.Ref.{now}
 use Rattle.emdf_format.specs.Edits.{Edit, placeExists}
 use Rattle.emdf_format.specs.Reading.{Container}
 use Rattle.emdf_format.proofs.Standing.{fails, holds}
-use Rattle.emdf_plan.specs.declared.Brought.{Brought}
-use Rattle.emdf_plan.specs.declared.Stretch.{Stretch}
-use Rattle.emdf_plan.specs.Plan.{editOf, stretchOf, bringing, laid}
-use Rattle.emdf_plan.proofs.Asking.{same-place, place-in, trailing, no-place, not-writable, cut-in, measures}
+use Rattle.emdf_request.specs.declared.Brought.{Brought}
+use Rattle.emdf_request.specs.Requests.{editOf, bringing}
+use Rattle.emdf_request.proofs.Requests.{same-place, place-in}
+use Rattle.emdf_plan.specs.Plan.{laid}
+use Rattle.emdf_plan.proofs.Asking.{trailing, no-place, not-writable, cut-in, measures}
 use Rattle.emdf_plan.proofs.Opening.{count}
 use Rattle.emdf_plan.proofs.plan_opened.Statement.{statement}
 use Rattle.emdf_plan.proofs.plan_opened.Tie as tie

@@ -1,8 +1,8 @@
 use borrow.Author.Needs.{needs}
 use Rattle.emdf_format.specs.Edits.{placeExists}
-use Rattle.emdf_plan.specs.Plan.{editOf}
-use Rattle.emdf_plan.proofs.place_exists.Statement.{statement}
-use Rattle.emdf_plan.proofs.place_exists.Tie as tie
+use Rattle.emdf_request.specs.Requests.{editOf}
+use Rattle.emdf_request.proofs.place_exists.Statement.{statement}
+use Rattle.emdf_request.proofs.place_exists.Tie as tie
 
 enum-known-request : tie.Need-enum-known-request
 enum-known-request c = search needs

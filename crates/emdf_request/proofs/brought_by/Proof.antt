@@ -8,9 +8,9 @@ use lib.Dec.{lit<}
 use denote.Ref.{now}
 use Rattle.emdf_format.specs.Contents.{extensionBits}
 use Rattle.emdf_measure.proofs.Asked.{groups-few, extension-few}
-use Rattle.emdf_plan.specs.Plan.{bringing}
-use Rattle.emdf_plan.proofs.brought_by.Statement.{statement}
-use Rattle.emdf_plan.proofs.brought_by.Tie as tie
+use Rattle.emdf_request.specs.Requests.{bringing}
+use Rattle.emdf_request.proofs.brought_by.Statement.{statement}
+use Rattle.emdf_request.proofs.brought_by.Tie as tie
 
 enum-told : tie.Need-enum-told
 enum-told c = search needs

@@ -8,9 +8,9 @@ use mathlib.Core.Path.{_≡_}
 use Rattle.emdf_format.specs.Syntax.{groups}
 use Rattle.emdf_format.specs.Contents.{writablePayload, extensionBits, neededConfig}
 use Rattle.emdf_measure.proofs.Asked.{groups-few, extension-few}
-use Rattle.emdf_plan.specs.Plan.{bringing}
-use Rattle.emdf_plan.proofs.payload_brought.Statement.{statement}
-use Rattle.emdf_plan.proofs.payload_brought.Tie as tie
+use Rattle.emdf_request.specs.Requests.{bringing}
+use Rattle.emdf_request.proofs.payload_brought.Statement.{statement}
+use Rattle.emdf_request.proofs.payload_brought.Tie as tie
 
 few : (c : tie.After-config-bits) → c .before .id-bits .result + c .config-bits .result ≤ 2821
 few c = omega (arith, c .before .id-bits .ensures, c .config-bits .ensures .1, extension-few 5 (c .before .before .before .before .args .id) (lit< tt) (lit< tt) (omega arith))

@@ -4,8 +4,8 @@ use native.Mathlib.Omega.{arith}
 use borrow.Author.Tests.{lt-ltb, le-leb, lt-leb}
 use Rattle.emdf_format.specs.Contents.{writablePayload}
 use Rattle.emdf_measure.proofs.Asked.{stop, go}
-use Rattle.emdf_plan.proofs.writable_payload.Statement.{statement}
-use Rattle.emdf_plan.proofs.writable_payload.Tie as tie
+use Rattle.emdf_request.proofs.writable_payload.Statement.{statement}
+use Rattle.emdf_request.proofs.writable_payload.Tie as tie
 
 returns : tie.Need-returns
 unfolding writablePayload

@@ -1,6 +1,6 @@
 use borrow.Author.Needs.{needs}
-use Rattle.emdf_plan.proofs.stretch_of.Statement.{statement}
-use Rattle.emdf_plan.proofs.stretch_of.Tie as tie
+use Rattle.emdf_request.proofs.stretch_of.Statement.{statement}
+use Rattle.emdf_request.proofs.stretch_of.Tie as tie
 
 enum-known-request : tie.Need-enum-known-request
 enum-known-request c = search needs
