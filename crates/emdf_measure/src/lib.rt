@@ -197,7 +197,7 @@ pub fn protection_code(n: usize) -> u64
     }
 }
 
-pub fn is_codable(n: usize) -> bool
+fn is_codable(n: usize) -> bool
     ensures { λ r. ⌜ r ≡ codable n ⌝ }
 {
     match n {

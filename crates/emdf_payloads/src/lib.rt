@@ -111,13 +111,7 @@ fn after_by_fields(s: &[u8], c: BitCursor, start: usize, id: u64) -> PayloadStep
 }
 
 // The parts of a payload adjoin: each ends where the next one starts.
-pub fn bit_trace(
-    id: usize,
-    config: usize,
-    size: usize,
-    body: usize,
-    end: usize,
-) -> EmdfPayloadBitTrace
+fn bit_trace(id: usize, config: usize, size: usize, body: usize, end: usize) -> EmdfPayloadBitTrace
     ensures { λ r. ⌜ r ≡ traceOf id config size body end ⌝ }
 {
     EmdfPayloadBitTrace {

@@ -39,7 +39,7 @@ length-config : (t : EmdfPayloadConfig) → length (configWords t) ≡ 18
 unfolding configWords
 length-config t = simp (length-append, length-optional)
 
-length-record : (r : PayloadRecord) → length (words (recordWords r)) ≡ 216
+pub length-record : (r : PayloadRecord) → length (words (recordWords r)) ≡ 216
 unfolding recordWords
 length-record r = length-words (recordWords r) ∙ simp (length-append, length-config)
 

@@ -100,7 +100,7 @@ fn put_found(table: &mut [u8], row: usize, s: &[u8], c: BitCursor) -> BitCursor
 }
 
 // The id, 18 numbers of settings, 8 of the trace.
-fn put_record(table: &mut [u8], at: usize, row: PayloadRecord)
+pub fn put_record(table: &mut [u8], at: usize, row: PayloadRecord)
     requires { ⌜ at + 216 ≤ length (now table) ⌝ }
     ensures { λ _. ⌜ now (table .exit) ≡ sets (now (table .entry)) at (words (recordWords row)) ⌝ }
 {

@@ -4,6 +4,7 @@ use crate::case::{write_bytes, ACCEPTED};
 use crate::contents::{Contents, Payload, Settings};
 use std::fmt;
 use std::ops::Range;
+use std::sync::LazyLock;
 
 pub const TRUNCATED: u32 = 1;
 pub const NO_SYNC_WORD: u32 = 2;
@@ -21,6 +22,9 @@ pub const TOO_LONG: u32 = 18;
 pub const SCRATCH_TOO_SHORT: u32 = 19;
 pub const DESTINATION_TOO_SHORT: u32 = 19;
 pub const BYTES_AFTER: u32 = 20;
+
+/// The numbers that a call can return, 0 among them.
+pub const NUMBERS: usize = 21;
 
 pub const SYNC_WORD: u16 = 0x5838;
 
@@ -58,13 +62,52 @@ pub const ROW_WORDS: usize = 27;
 /// The bytes of one row of a table.
 pub const ROW: usize = 8 * ROW_WORDS;
 
+/// The most records that are lent to `parse_emdf_sync_with_bit_trace`.
+pub const MOST_RECORDS: usize = 512;
+
+/// The row of a record that no payload was put into.
+pub const BLANK_ROW: [u64; ROW_WORDS] = {
+    let mut row = [u64::MAX; ROW_WORDS];
+    // The eight settings that may be absent are present.
+    let mut word = 1;
+    while word <= SETTINGS_WORDS {
+        if word < 7 || 8 < word {
+            row[word] = 1;
+        }
+        word += 2;
+    }
+    row
+};
+
 /// What is asked of a carrier; lengths are in bytes.
 #[derive(Clone, Copy, Debug, Eq, PartialEq)]
 pub enum Ask {
     Classify,
-    Read { table: usize },
-    MoveBody { place: usize, scratch: usize },
-    Verdict { profile: u32 },
+    Read {
+        table: usize,
+    },
+    MoveBody {
+        place: usize,
+        scratch: usize,
+    },
+    Verdict {
+        profile: u32,
+    },
+    /// `parse_emdf_sync`.
+    Parse,
+    /// `parse_emdf_sync_with_bit_trace`, with as many records as the table has rows.
+    Trace {
+        table: usize,
+    },
+    /// `choose_body`, with a scratch that the body was moved to before, or that is noise.
+    ChooseBody {
+        place: usize,
+        scratch: usize,
+        is_moved: bool,
+        room: usize,
+    },
+    /// `validate_joc_profile`.
+    StrictVerdict,
 }
 
 impl Ask {
@@ -75,7 +118,19 @@ impl Ask {
             Self::Read { .. } => "read",
             Self::MoveBody { .. } => "move_body",
             Self::Verdict { .. } => "verdict",
+            Self::Parse => "parse_emdf_sync",
+            Self::Trace { .. } => "parse_emdf_sync_with_bit_trace",
+            Self::ChooseBody { .. } => "choose_body",
+            Self::StrictVerdict => "validate_joc_profile",
         }
+    }
+
+    /// Whether a host has this call.
+    fn is_exported(self) -> bool {
+        matches!(
+            self,
+            Self::Classify | Self::Read { .. } | Self::MoveBody { .. } | Self::Verdict { .. }
+        )
     }
 
     /// How many numbers its answer has.
@@ -83,9 +138,10 @@ impl Ask {
     pub fn words(self) -> usize {
         match self {
             Self::Classify => CLASS_WORDS,
-            Self::Read { .. } => SUMMARY_WORDS,
+            Self::Read { .. } | Self::Parse | Self::Trace { .. } => SUMMARY_WORDS,
             Self::MoveBody { .. } => MOVE_WORDS,
-            Self::Verdict { .. } => VERDICT_WORDS,
+            Self::Verdict { .. } | Self::StrictVerdict => VERDICT_WORDS,
+            Self::ChooseBody { .. } => 1,
         }
     }
 
@@ -93,21 +149,43 @@ impl Ask {
     #[must_use]
     pub fn lent(self) -> usize {
         match self {
-            Self::Classify | Self::Verdict { .. } => 0,
-            Self::Read { table } => table,
+            Self::Classify | Self::Verdict { .. } | Self::Parse | Self::StrictVerdict => 0,
+            Self::Read { table } | Self::Trace { table } => table,
             Self::MoveBody { scratch, .. } => scratch,
+            Self::ChooseBody { room, .. } => room,
         }
+    }
+
+    /// The same at another place, where it has one.
+    #[must_use]
+    pub fn at(mut self, to: usize) -> Self {
+        if let Self::MoveBody { place, .. } | Self::ChooseBody { place, .. } = &mut self {
+            *place = to;
+        }
+        self
     }
 
     /// The same with other memory, where it takes any.
     #[must_use]
     pub fn with_lent(self, lent: usize) -> Option<Self> {
         match self {
-            Self::Classify | Self::Verdict { .. } => None,
+            Self::Classify | Self::Verdict { .. } | Self::Parse | Self::StrictVerdict => None,
             Self::Read { .. } => Some(Self::Read { table: lent }),
+            Self::Trace { .. } => Some(Self::Trace { table: lent }),
             Self::MoveBody { place, .. } => Some(Self::MoveBody {
                 place,
                 scratch: lent,
+            }),
+            Self::ChooseBody {
+                place,
+                scratch,
+                is_moved,
+                ..
+            } => Some(Self::ChooseBody {
+                place,
+                scratch,
+                is_moved,
+                room: lent,
             }),
         }
     }
@@ -254,6 +332,16 @@ pub fn settings(settings: &Settings) -> [u64; SETTINGS_WORDS] {
     std::array::from_fn(|place| in_order[place / 2][place % 2])
 }
 
+/// What stands in a scratch that nothing was moved to; longer than any body.
+static NOISE: LazyLock<Vec<u8>> =
+    LazyLock::new(|| (0..1 << 17).map(|place| (167 * place + 13) as u8).collect());
+
+/// The first so many bytes of such a scratch.
+#[must_use]
+pub fn noise(length: usize) -> &'static [u8] {
+    &NOISE[..length]
+}
+
 /// As many rows as payloads can stand in a carrier of so many bytes.
 #[must_use]
 pub fn most_rows(length: usize) -> usize {
@@ -269,16 +357,30 @@ pub struct Asked<'a> {
 
 impl fmt::Display for Asked<'_> {
     fn fmt(&self, formatter: &mut fmt::Formatter<'_>) -> fmt::Result {
-        writeln!(formatter, "  call      emdf_{}", self.ask.name())?;
+        let prefix = if self.ask.is_exported() { "emdf_" } else { "" };
+        writeln!(formatter, "  call      {prefix}{}", self.ask.name())?;
         write_bytes(formatter, self.bytes)?;
         match self.ask {
-            Ask::Classify => Ok(()),
-            Ask::Read { table } => writeln!(formatter, "  table     {table} bytes"),
+            Ask::Classify | Ask::Parse | Ask::StrictVerdict => Ok(()),
+            Ask::Read { table } | Ask::Trace { table } => {
+                writeln!(formatter, "  table     {table} bytes")
+            }
             Ask::MoveBody { place, scratch } => {
                 writeln!(formatter, "  place     {place}")?;
                 writeln!(formatter, "  scratch   {scratch} bytes")
             }
             Ask::Verdict { profile } => writeln!(formatter, "  profile   {profile}"),
+            Ask::ChooseBody {
+                place,
+                scratch,
+                is_moved,
+                room,
+            } => {
+                let holds = if is_moved { "the body, moved" } else { "noise" };
+                writeln!(formatter, "  place     {place}")?;
+                writeln!(formatter, "  scratch   {scratch} bytes of {holds}")?;
+                writeln!(formatter, "  room      {room} bytes")
+            }
         }
     }
 }

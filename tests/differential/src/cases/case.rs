@@ -43,6 +43,33 @@ impl Call {
             Self::VariableBits => "variable_bits",
         }
     }
+
+    /// Its name as a method of `BitReader`.
+    ///
+    /// # Panics
+    ///
+    /// On the variable field, which is none.
+    #[must_use]
+    pub fn method(self) -> &'static str {
+        match self {
+            Self::BitCursor => "BitReader::new",
+            Self::BitsRemaining => "BitReader::bits_remaining",
+            Self::ReadBits => "BitReader::read_bits",
+            Self::ReadBit => "BitReader::read_bit",
+            Self::TakeBits => "BitReader::take_bits",
+            Self::ByteAlign => "BitReader::byte_align",
+            Self::VariableBits => unreachable!("no method of a reader"),
+        }
+    }
+}
+
+/// The two forms that the library has of the bit calls.
+#[derive(Clone, Copy, Debug, Eq, PartialEq)]
+pub enum Form {
+    /// The exported calls, at a cursor by value.
+    Cursor,
+    /// `BitReader`'s methods, on a reader that stands at the cursor.
+    Reader,
 }
 
 /// A position and an end, in bits from the slice's first bit.
@@ -74,6 +101,7 @@ pub struct Request {
     pub argument: usize,
     /// The groups that `variable_bits` allows.
     pub limit: u8,
+    pub form: Form,
 }
 
 impl Request {
@@ -84,6 +112,22 @@ impl Request {
             cursor,
             argument,
             limit: 0,
+            form: Form::Cursor,
+        }
+    }
+
+    /// The same call of a reader, which has all but the variable field.
+    #[must_use]
+    pub fn of_a_reader(self) -> Option<Self> {
+        let form = Form::Reader;
+        (self.call != Call::VariableBits).then_some(Self { form, ..self })
+    }
+
+    #[must_use]
+    pub fn name(&self) -> &'static str {
+        match self.form {
+            Form::Cursor => self.call.name(),
+            Form::Reader => self.call.method(),
         }
     }
 
@@ -218,8 +262,12 @@ impl fmt::Display for Described<'_> {
             cursor,
             argument,
             limit,
+            form,
         } = self.request;
-        writeln!(formatter, "  call      emdf_{}", call.name())?;
+        match form {
+            Form::Cursor => writeln!(formatter, "  call      emdf_{}", call.name())?,
+            Form::Reader => writeln!(formatter, "  call      {}", call.method())?,
+        }
         write_bytes(formatter, self.bytes)?;
         writeln!(formatter, "  position  {}", cursor.position)?;
         writeln!(formatter, "  end       {}", cursor.end)?;

@@ -62,13 +62,13 @@ pub const GROUPS: [Group; 6] = [
     Group {
         name: "bit_cursor",
         least: 1,
-        outcomes: &[("bit_cursor", ACCEPTED)],
+        outcomes: &[("bit_cursor", ACCEPTED), ("BitReader::new", ACCEPTED)],
         marks: &[],
         run: bit_cursors,
     },
 ];
 
-const EVERY_OUTCOME: [Outcome; 10] = [
+const EVERY_OUTCOME: [Outcome; 20] = [
     ("bits_remaining", ACCEPTED),
     ("read_bits", ACCEPTED),
     ("read_bits", TOO_FEW_BITS),
@@ -79,6 +79,16 @@ const EVERY_OUTCOME: [Outcome; 10] = [
     ("take_bits", TOO_FEW_BITS),
     ("byte_align", ACCEPTED),
     ("byte_align", TOO_FEW_BITS),
+    ("BitReader::bits_remaining", ACCEPTED),
+    ("BitReader::read_bits", ACCEPTED),
+    ("BitReader::read_bits", TOO_FEW_BITS),
+    ("BitReader::read_bits", WIDTH_TOO_LARGE),
+    ("BitReader::read_bit", ACCEPTED),
+    ("BitReader::read_bit", TOO_FEW_BITS),
+    ("BitReader::take_bits", ACCEPTED),
+    ("BitReader::take_bits", TOO_FEW_BITS),
+    ("BitReader::byte_align", ACCEPTED),
+    ("BitReader::byte_align", TOO_FEW_BITS),
 ];
 
 const AFTER_REFUSAL: &str = "after-refusal";

@@ -1,7 +1,7 @@
 //! The groups for moving a body.
 
 use crate::carriers;
-use crate::examine::{Examiner, RAREST_PHASE};
+use crate::examine::{Examiner, IN_THE_CARRIER, IN_THE_SCRATCH, NO_BODY, RAREST_PHASE};
 use crate::report::{Difference, Group, Tally};
 use differential::carrier::{
     NO_PRIMARY, NO_SUCH_PLACE, NO_SYNC_WORD, PADDING_NOT_ZERO, PADDING_TOO_LONG, RESERVED_NOT_ZERO,
@@ -23,8 +23,9 @@ pub const GROUPS: [Group; 2] = [
             ("move_body", ACCEPTED),
             ("move_body", NO_SUCH_PLACE),
             ("move_body", SCRATCH_TOO_SHORT),
+            ("choose_body", ACCEPTED),
         ],
-        marks: &[RAREST_PHASE],
+        marks: &[RAREST_PHASE, IN_THE_CARRIER, IN_THE_SCRATCH, NO_BODY],
         run: every_body,
     },
     Group {
@@ -42,7 +43,7 @@ pub const GROUPS: [Group; 2] = [
             ("move_body", PADDING_TOO_LONG),
             ("move_body", PADDING_NOT_ZERO),
         ],
-        marks: &[],
+        marks: &[NO_BODY],
         run: damaged_carriers,
     },
 ];

@@ -48,6 +48,9 @@ pub const GROUPS: [Group; 5] = [
             ("classify", ACCEPTED),
             ("read", ACCEPTED),
             ("read", TABLE_TOO_SHORT),
+            ("parse_emdf_sync", ACCEPTED),
+            ("parse_emdf_sync_with_bit_trace", ACCEPTED),
+            ("parse_emdf_sync_with_bit_trace", TABLE_TOO_SHORT),
         ],
         marks: &[PARSED, TRAILING_DATA, RAREST_SETTINGS],
         run: written_carriers,
@@ -76,36 +79,59 @@ pub const GROUPS: [Group; 5] = [
 ];
 
 /// A reading's widths and bounds are fixed, so there is no 4 and no 5.
-const EVERY_OUTCOME: [Outcome; 22] = [
+const EVERY_OUTCOME: [Outcome; 45] = [
     ("classify", ACCEPTED),
     ("read", ACCEPTED),
     ("read", TABLE_TOO_SHORT),
+    ("parse_emdf_sync", ACCEPTED),
+    ("parse_emdf_sync_with_bit_trace", ACCEPTED),
+    ("parse_emdf_sync_with_bit_trace", TABLE_TOO_SHORT),
     ("read", NO_SYNC_WORD),
     ("read", TRUNCATED),
     ("classify", TRUNCATED),
+    ("parse_emdf_sync", NO_SYNC_WORD),
+    ("parse_emdf_sync_with_bit_trace", NO_SYNC_WORD),
+    ("parse_emdf_sync", TRUNCATED),
+    ("parse_emdf_sync_with_bit_trace", TRUNCATED),
     ("classify", TOO_FEW_BITS),
     ("read", TOO_FEW_BITS),
+    ("parse_emdf_sync", TOO_FEW_BITS),
+    ("parse_emdf_sync_with_bit_trace", TOO_FEW_BITS),
     ("classify", TOO_MANY_GROUPS),
     ("read", TOO_MANY_GROUPS),
+    ("parse_emdf_sync", TOO_MANY_GROUPS),
+    ("parse_emdf_sync_with_bit_trace", TOO_MANY_GROUPS),
     ("classify", VALUE_TOO_LARGE),
     ("read", VALUE_TOO_LARGE),
+    ("parse_emdf_sync", VALUE_TOO_LARGE),
+    ("parse_emdf_sync_with_bit_trace", VALUE_TOO_LARGE),
     ("classify", VERSION_NOT_ZERO),
     ("read", VERSION_NOT_ZERO),
+    ("parse_emdf_sync", VERSION_NOT_ZERO),
+    ("parse_emdf_sync_with_bit_trace", VERSION_NOT_ZERO),
     ("classify", RESERVED_NOT_ZERO),
     ("read", RESERVED_NOT_ZERO),
+    ("parse_emdf_sync", RESERVED_NOT_ZERO),
+    ("parse_emdf_sync_with_bit_trace", RESERVED_NOT_ZERO),
     ("classify", NO_PRIMARY),
     ("read", NO_PRIMARY),
+    ("parse_emdf_sync", NO_PRIMARY),
+    ("parse_emdf_sync_with_bit_trace", NO_PRIMARY),
     ("classify", PADDING_TOO_LONG),
     ("read", PADDING_TOO_LONG),
+    ("parse_emdf_sync", PADDING_TOO_LONG),
+    ("parse_emdf_sync_with_bit_trace", PADDING_TOO_LONG),
     ("classify", PADDING_NOT_ZERO),
     ("read", PADDING_NOT_ZERO),
+    ("parse_emdf_sync", PADDING_NOT_ZERO),
+    ("parse_emdf_sync_with_bit_trace", PADDING_NOT_ZERO),
 ];
 
-/// All but the first three.
-const EVERY_REFUSAL: &[Outcome] = EVERY_OUTCOME.split_at(3).1;
+/// All but the first six.
+const EVERY_REFUSAL: &[Outcome] = EVERY_OUTCOME.split_at(6).1;
 
 /// All but what only a table or a header gives.
-const INSIDE_A_CONTAINER: &[Outcome] = EVERY_OUTCOME.split_at(6).1;
+const INSIDE_A_CONTAINER: &[Outcome] = EVERY_OUTCOME.split_at(13).1;
 
 /// A field that fits, but not with its escape base added.
 const SUM_WITH_BASE: &str = "sum-with-base";

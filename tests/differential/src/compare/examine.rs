@@ -6,7 +6,7 @@ use crate::library::{self, Replied};
 use crate::reached::Reached;
 use crate::report::{Difference, Tally};
 use crate::shrink::{self, CarrierCase};
-use differential::carrier::{most_rows, Ask, Asked, Reading, ROW, ROW_WORDS};
+use differential::carrier::{most_rows, Ask, Asked, Reading, NUMBERS, ROW, ROW_WORDS};
 use differential::facts::{Class, Facts};
 use differential::profile::{self, STRICT};
 use differential::shapes::{self, SHAPES};
@@ -23,8 +23,21 @@ pub const RAREST_PHASE: &str = "each-phase";
 /// How often the rarest combination of settings stood in a row.
 pub const RAREST_SETTINGS: &str = "each-settings";
 
+/// How often a body was chosen in the carrier, in the scratch, and nowhere.
+pub const IN_THE_CARRIER: &str = "in-carrier";
+pub const IN_THE_SCRATCH: &str = "in-scratch";
+pub const NO_BODY: &str = "no-body";
+
+/// The most bytes of a chosen body that are looked at; its length always is.
+const MOST_CHOSEN: usize = 2_000;
+
 /// Numbers that are compat, asked in turns; the low bits of some are all 0.
 const COMPAT: [u32; 7] = [1, 2, 3, 256, 1 << 16, 1 << 31, u32::MAX];
+
+/// So many carriers of each outcome are read by the calls that no host has too, and then one in so many: 512 records
+/// are made each time.
+const TRACED_FIRST: usize = 200;
+const TRACED: usize = 61;
 
 /// What the library is lent for one carrier after another, and what was reached by them.
 pub struct Examiner {
@@ -34,6 +47,8 @@ pub struct Examiner {
     pub reached: Reached,
     /// How many verdicts of compat were asked for.
     turns: usize,
+    /// How many carriers were read with each number.
+    read: [usize; NUMBERS],
 }
 
 impl Examiner {
@@ -45,10 +60,11 @@ impl Examiner {
             phases: [0; 8],
             reached: Reached::new(),
             turns: 0,
+            read: [0; NUMBERS],
         }
     }
 
-    /// Both calls on a carrier, reading with tables of several lengths.
+    /// The calls that read a carrier, with tables of several lengths.
     ///
     /// # Errors
     ///
@@ -63,8 +79,15 @@ impl Examiner {
         self.count_settings(&facts.reading);
         self.desk.place.put(bytes);
         self.compare(Ask::Classify, bytes, &facts, tally)?;
+        let is_traced = self.is_traced(facts.reply(Ask::Read { table: usize::MAX }).number);
+        if is_traced {
+            self.compare(Ask::Parse, bytes, &facts, tally)?;
+        }
         for table in tables(bytes.len(), &facts) {
             self.compare(Ask::Read { table }, bytes, &facts, tally)?;
+            if is_traced {
+                self.compare(Ask::Trace { table }, bytes, &facts, tally)?;
+            }
         }
         Ok(facts)
     }
@@ -134,6 +157,7 @@ impl Examiner {
             for scratch in scratches(&facts, place) {
                 self.compare(Ask::MoveBody { place, scratch }, bytes, &facts, tally)?;
             }
+            self.compare_chosen(place, bytes, &facts, tally)?;
         }
         Ok(())
     }
@@ -148,6 +172,12 @@ impl Examiner {
     pub fn mark_phases(&self, tally: &mut Tally) {
         let rarest = self.phases.into_iter().min().unwrap_or(0);
         tally.mark_times(RAREST_PHASE, rarest);
+    }
+
+    fn is_traced(&mut self, number: u32) -> bool {
+        let read = &mut self.read[number as usize];
+        *read += 1;
+        *read <= TRACED_FIRST || *read % TRACED == 0
     }
 
     fn count_settings(&mut self, reading: &Reading) {
@@ -177,6 +207,37 @@ impl Examiner {
                 let said = [ruled, reply].map(|reply| reply.shown(ask));
                 return Err(breaks_the_rule(bytes, ask, &said));
             }
+        }
+        self.compare(Ask::StrictVerdict, bytes, facts, tally)
+    }
+
+    /// The body that is chosen: after a move, and with noise in a scratch that is just long enough, or one byte too short.
+    fn compare_chosen(
+        &mut self,
+        place: usize,
+        bytes: &[u8],
+        facts: &Facts,
+        tally: &mut Tally,
+    ) -> Result<(), Difference> {
+        let ask = |scratch, is_moved, room| Ask::ChooseBody {
+            place,
+            scratch,
+            is_moved,
+            room,
+        };
+        let Some((body, start)) = facts.body(place) else {
+            tally.mark(NO_BODY);
+            return self.compare(ask(300, false, 5), bytes, facts, tally);
+        };
+        let room = body.len().min(MOST_CHOSEN);
+        self.compare(ask(body.len(), true, room), bytes, facts, tally)?;
+        for scratch in [body.len(), body.len().saturating_sub(1)] {
+            tally.mark(match start % 8 {
+                0 => IN_THE_CARRIER,
+                _ if body.len() <= scratch => IN_THE_SCRATCH,
+                _ => NO_BODY,
+            });
+            self.compare(ask(scratch, false, room + 5), bytes, facts, tally)?;
         }
         Ok(())
     }
@@ -224,7 +285,7 @@ impl Desk {
 pub fn disagreement(bytes: &[u8], ask: Ask, facts: &Facts, lent: &mut Lent) -> Option<String> {
     let replied = library::reply(bytes, ask, lent);
     let written = facts.written(ask);
-    if replied.reply == facts.reply(ask) && replied.frame_intact && lent.holds(written) {
+    if replied.reply == facts.reply(ask) && replied.frame_intact && lent.holds(&written) {
         lent.restore(written.len());
         return None;
     }
@@ -313,8 +374,8 @@ fn both_sides(ask: Ask, facts: &Facts, replied: &Replied, lent: &Lent) -> String
         said += "  library   wrote beside its answer\n";
     }
     let written = facts.written(ask);
-    if !lent.holds(written) {
-        said += &lent_difference(ask, written, lent);
+    if !lent.holds(&written) {
+        said += &lent_difference(ask, &written, lent);
     }
     said
 }
@@ -331,7 +392,7 @@ fn lent_difference(ask: Ask, written: &[u8], lent: &Lent) -> String {
     if byte >= written.len() {
         return format!("  library   changed byte {byte} of what it was lent, which had to stay\n");
     }
-    let (place, [wanted, is]) = if matches!(ask, Ask::Read { .. }) {
+    let (place, [wanted, is]) = if matches!(ask, Ask::Read { .. } | Ask::Trace { .. }) {
         number_at(byte / 8, [written, lent.lent()])
     } else {
         let bytes = [written, lent.lent()].map(|bytes| u64::from(bytes[byte]));

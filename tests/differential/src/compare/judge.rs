@@ -56,14 +56,26 @@ impl<'a> Subject<'a> {
         Err(Difference(format!("{heading}\n{case}{said}")))
     }
 
-    /// The library's answer, where it is the expected one in every figure.
+    /// The library's answer, where it is the expected one in every figure, and a reader's too.
     fn compare(
         &self,
         request: Request,
         expected: Answer,
         tally: &mut Tally,
     ) -> Result<Answer, Difference> {
-        tally.count(request.call.name(), expected.number);
+        if let Some(of_a_reader) = request.of_a_reader() {
+            self.compare_form(of_a_reader, expected, tally)?;
+        }
+        self.compare_form(request, expected, tally)
+    }
+
+    fn compare_form(
+        &self,
+        request: Request,
+        expected: Answer,
+        tally: &mut Tally,
+    ) -> Result<Answer, Difference> {
+        tally.count(request.name(), expected.number);
         let observed = library::answer(&self.input, request);
         if observed.agrees(&expected) {
             Ok(observed.answer)

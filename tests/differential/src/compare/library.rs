@@ -5,11 +5,13 @@ use crate::exported;
 use crate::frame::Frame;
 use crate::guard::Input;
 use crate::lent::Lent;
+use crate::trials;
 use differential::carrier::{
-    Ask, Asked, Reply, CLASS_WORDS, EDIT_WORDS, MOVE_WORDS, SUMMARY_WORDS, VERDICT_WORDS,
+    self, Ask, Asked, Reply, CLASS_WORDS, EDIT_WORDS, MOVE_WORDS, SUMMARY_WORDS, VERDICT_WORDS,
 };
-use differential::case::{Answer, Call, Described, Request, BIT_WORDS};
+use differential::case::{Answer, Call, Described, Form, Request, BIT_WORDS};
 use differential::plain::Edit;
+use std::borrow::Cow;
 
 extern "C" {
     fn emdf_bit_cursor(bytes: *const u8, length: usize, answer: *mut u8) -> u32;
@@ -102,8 +104,10 @@ impl Observed {
 pub fn answer(input: &Input, request: Request) -> Observed {
     let bytes = input.bytes();
     let mut frame = Frame::<BIT_WORDS>::EMPTY;
-    let number = crash::during(&Described { bytes, request }, || {
-        call(bytes, request, frame.answer_mut())
+    let number = crash::during(&Described { bytes, request }, || match request.form {
+        Form::Cursor => call(bytes, request, frame.answer_mut()),
+        // SAFETY: the frame has the bytes of an answer.
+        Form::Reader => unsafe { trials::reader(bytes, request, frame.answer_mut()) },
     });
     Observed {
         answer: Answer {
@@ -161,6 +165,30 @@ pub fn reply(bytes: &[u8], ask: Ask, lent: &mut Lent) -> Replied {
             Ask::Verdict { profile } => {
                 replied::<VERDICT_WORDS>(|answer| emdf_verdict(start, length, profile, answer))
             }
+            Ask::Parse => replied::<SUMMARY_WORDS>(|answer| trials::parse(bytes, answer)),
+            Ask::Trace { table } => {
+                replied::<SUMMARY_WORDS>(|answer| trials::trace(bytes, (memory, table), answer))
+            }
+            Ask::ChooseBody {
+                place,
+                scratch,
+                is_moved,
+                room,
+            } => {
+                let mut scratch = Cow::from(carrier::noise(scratch));
+                if is_moved {
+                    let mut answer = [0; 8 * MOVE_WORDS];
+                    let scratch = scratch.to_mut();
+                    let (to, lent) = (scratch.as_mut_ptr(), scratch.len());
+                    emdf_move_body(start, length, place, to, lent, answer.as_mut_ptr());
+                }
+                let chosen = trials::choose_body(bytes, place, &scratch, (memory, room));
+                Replied {
+                    reply: Reply::accepted(&[chosen as u64]),
+                    frame_intact: true,
+                }
+            }
+            Ask::StrictVerdict => replied::<VERDICT_WORDS>(|answer| trials::verdict(bytes, answer)),
         }
     })
 }

@@ -22,6 +22,7 @@ mod report;
 mod self_check;
 mod shrink;
 mod sparse;
+mod trials;
 mod verdicts;
 
 use differential::options::Options;

@@ -27,6 +27,8 @@ pub struct Tally {
     outcomes: Vec<(Outcome, u64)>,
     marks: Vec<(&'static str, u64)>,
     least: u64,
+    /// The first so many outcomes are those that have to be hit.
+    named: usize,
 }
 
 impl Tally {
@@ -36,6 +38,7 @@ impl Tally {
             outcomes: group.outcomes.iter().map(|&outcome| (outcome, 0)).collect(),
             marks: group.marks.iter().map(|&mark| (mark, 0)).collect(),
             least: group.least,
+            named: group.outcomes.len(),
         }
     }
 
@@ -59,7 +62,8 @@ impl Tally {
     /// What the group had to hit more often than it did.
     #[must_use]
     pub fn too_rare(&self) -> Vec<String> {
-        let outcomes = self.outcomes.iter().map(|((call, number), count)| {
+        let named = self.outcomes[..self.named].iter();
+        let outcomes = named.map(|((call, number), count)| {
             let name = format!("{call} {}", outcome_name(*number));
             (name, *count)
         });

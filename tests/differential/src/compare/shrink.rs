@@ -210,14 +210,14 @@ fn with_a_smaller_profile(case: &CarrierCase) -> Option<CarrierCase> {
 /// The body that is asked for, with fewer payloads before it.
 fn with_an_earlier_place(case: &CarrierCase) -> impl Iterator<Item = CarrierCase> + '_ {
     let asked = match case.ask {
-        Ask::MoveBody { place, scratch } => Some((place, scratch)),
+        Ask::MoveBody { place, .. } | Ask::ChooseBody { place, .. } => Some(place),
         _ => None,
     };
-    asked.into_iter().flat_map(|(place, scratch)| {
+    asked.into_iter().flat_map(move |place| {
         let fewer = with_fewer_before(&case.bytes, place);
         fewer.map(move |(bytes, place)| CarrierCase {
             bytes,
-            ask: Ask::MoveBody { place, scratch },
+            ask: case.ask.at(place),
         })
     })
 }

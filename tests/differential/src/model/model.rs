@@ -12,6 +12,7 @@ pub fn forged(request: Request) -> Answer {
         cursor,
         argument,
         limit,
+        ..
     } = request;
     match call {
         Call::BitCursor => unreachable!("takes no cursor"),

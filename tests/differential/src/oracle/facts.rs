@@ -1,9 +1,9 @@
 //! The Rust side of the calls on a carrier: the original's answers, told in the library's figures.
 
 use crate::carrier::{
-    summary, Ask, Found, Reading, Refusal, Reply, Spans, NO_PRIMARY, NO_SUCH_PLACE, NO_SYNC_WORD,
-    PADDING_NOT_ZERO, PADDING_TOO_LONG, RESERVED_NOT_ZERO, ROW, SCRATCH_TOO_SHORT, TABLE_TOO_SHORT,
-    TRUNCATED, VERSION_NOT_ZERO,
+    noise, summary, Ask, Found, Reading, Refusal, Reply, Spans, BLANK_ROW, MOST_RECORDS,
+    NO_PRIMARY, NO_SUCH_PLACE, NO_SYNC_WORD, PADDING_NOT_ZERO, PADDING_TOO_LONG, RESERVED_NOT_ZERO,
+    ROW, SCRATCH_TOO_SHORT, TABLE_TOO_SHORT, TRUNCATED, VERSION_NOT_ZERO,
 };
 use crate::case::{TOO_FEW_BITS, TOO_MANY_GROUPS, VALUE_TOO_LARGE};
 use crate::contents::{Contents, Payload, Settings};
@@ -14,6 +14,7 @@ use openjoc_emdf::{
     CarrierClassification, EmdfContainer, EmdfError, EmdfPayload, EmdfPayloadBitTrace,
     EmdfPayloadConfig, ParsedEmdfBitTrace,
 };
+use std::borrow::Cow;
 use std::cell::OnceCell;
 
 /// The classes in the order of their numbers.
@@ -69,21 +70,61 @@ impl<'a> Facts<'a> {
             Ask::Classify => self.classification().1,
             Ask::Read { table } => self.reading_reply(table),
             Ask::MoveBody { place, scratch } => self.body_reply(place, scratch),
-            Ask::Verdict { profile: STRICT } => self.verdicts.strict,
+            Ask::Verdict { profile: STRICT } | Ask::StrictVerdict => self.verdicts.strict,
             Ask::Verdict { .. } => self.verdicts.compat,
+            Ask::Parse => self.parsed_reply(),
+            Ask::Trace { table } => self.reading_reply(ROW * lent_records(table)),
+            Ask::ChooseBody { .. } => Reply::accepted(&[self.chosen(ask).len() as u64]),
         }
     }
 
     /// What the first bytes of the lent memory have to be after the call; all others stay.
     #[must_use]
-    pub fn written(&self, ask: Ask) -> &[u8] {
+    pub fn written(&self, ask: Ask) -> Cow<'_, [u8]> {
         match ask {
-            Ask::Read { table } if self.count() <= table / ROW => self.rows(),
+            Ask::Read { table } if self.count() <= table / ROW => self.rows().into(),
             Ask::MoveBody { place, scratch } => match self.body(place) {
-                Some((body, start)) if start % 8 != 0 && body.len() <= scratch => body,
-                _ => &[],
+                Some((body, start)) if start % 8 != 0 && body.len() <= scratch => body.into(),
+                _ => Cow::Borrowed(&[]),
             },
-            _ => &[],
+            Ask::Trace { table } => self.records(lent_records(table)).into(),
+            Ask::ChooseBody { room, .. } => {
+                let chosen = self.chosen(ask);
+                chosen[..room.min(chosen.len())].into()
+            }
+            _ => Cow::Borrowed(&[]),
+        }
+    }
+
+    /// So many records, as rows: those of the payloads where they are enough, and blank ones.
+    fn records(&self, lent: usize) -> Vec<u8> {
+        let mut rows = Vec::new();
+        if self.count() <= lent {
+            rows.extend_from_slice(self.rows());
+        }
+        let blank = BLANK_ROW.map(u64::to_be_bytes);
+        let rest = lent - rows.len() / ROW;
+        rows.extend(blank.as_flattened().repeat(rest));
+        rows
+    }
+
+    /// The body in the carrier or in the scratch, or nothing.
+    fn chosen(&self, ask: Ask) -> &[u8] {
+        let Ask::ChooseBody {
+            place,
+            scratch,
+            is_moved,
+            ..
+        } = ask
+        else {
+            unreachable!("chooses no body: {ask:?}")
+        };
+        match self.body(place) {
+            Some((body, start)) if start % 8 == 0 => body,
+            Some((body, _)) if scratch < body.len() => &[],
+            Some((body, _)) if is_moved => body,
+            Some((body, _)) => noise(body.len()),
+            None => &[],
         }
     }
 
@@ -105,6 +146,17 @@ impl<'a> Facts<'a> {
             Ok(found) => found.rows().flatten().flat_map(u64::to_be_bytes).collect(),
             Err(_) => Vec::new(),
         })
+    }
+
+    /// From the original's call that reads without a trace.
+    fn parsed_reply(&self) -> Reply {
+        match openjoc_emdf::parse_emdf_sync(self.bytes) {
+            Ok(parsed) => {
+                let words = summary(parsed.bytes_consumed, &contents(parsed.container));
+                Reply::accepted(&words)
+            }
+            Err(error) => refusal(error).reply(),
+        }
     }
 
     fn reading_reply(&self, table: usize) -> Reply {
@@ -130,6 +182,11 @@ impl<'a> Facts<'a> {
         }
         Reply::accepted(&[start as u64, size])
     }
+}
+
+/// As many records as rows of a table of so many bytes, up to the most.
+fn lent_records(table: usize) -> usize {
+    MOST_RECORDS.min(table / ROW)
 }
 
 /// What the original's reading finds, or why it refuses.

@@ -1,0 +1,71 @@
+use borrow.Author.Needs.{needs}
+use Rattle.emdf_trials.proofs.Answers.{traced, untraced, rows-told}
+use Rattle.emdf_trials.proofs.trial_trace.Statement.{statement}
+use Rattle.emdf_trials.proofs.trial_trace.Tie as tie
+
+table-rows-requires : tie.Need-table-rows-requires
+table-rows-requires c κs = search needs
+
+blank-record-requires : tie.Need-blank-record-requires
+blank-record-requires c κs = search needs
+
+read-table-requires : tie.Need-read-table-requires
+read-table-requires c κs = search needs
+
+put-records-requires : tie.Need-put-records-requires
+put-records-requires c κs = search needs
+
+enum-known-a : tie.Need-enum-known-a
+enum-known-a c = search needs
+
+parsed-words-requires : tie.Need-parsed-words-requires
+parsed-words-requires c κs = search needs
+
+put-nine-requires : tie.Need-put-nine-requires
+put-nine-requires c κs = search needs
+
+enum-known-a-2 : tie.Need-enum-known-a-2
+enum-known-a-2 c = search needs
+
+put-refusal-requires : tie.Need-put-refusal-requires
+put-refusal-requires c κs = search needs
+
+same-length : tie.Need-same-length
+same-length c = search needs
+
+returns : tie.Need-returns
+returns c =
+    let q = c .before .before .before .before .before .before .before .before .before .before .before in
+    let rows = q .before .before .table-rows .ensures .0 in
+    let h = q .read-table .ensures in
+    let t = traced _ rows (h .0) (c .before .before .before .before .a .given .1) (c .put-nine .ensures) (c .before .parsed-words .ensures) in
+    (t, rows-told _ _ rows (q .before .blank-record .ensures) (h .1) (c .before .before .before .before .before .before .before .before .put-records .ensures))
+
+same-length-2 : tie.Need-same-length-2
+same-length-2 c = search needs
+
+returns-2 : tie.Need-returns-2
+returns-2 c =
+    let q = c .before .before .before .before .before .before .before .before .before .before in
+    let rows = q .before .before .table-rows .ensures .0 in
+    let h = q .read-table .ensures in
+    let t = untraced _ rows (h .0) (c .before .before .before .a2 .given .1) (c .put-refusal .ensures) in
+    (t, rows-told _ _ rows (q .before .blank-record .ensures) (h .1) (c .before .before .before .before .before .before .before .put-records .ensures))
+
+pub trial-trace-spec : {M : Type 1} → statement M
+trial-trace-spec =
+    tie.close
+    (tie.spec
+    table-rows-requires
+    blank-record-requires
+    read-table-requires
+    put-records-requires
+    enum-known-a
+    parsed-words-requires
+    put-nine-requires
+    enum-known-a-2
+    put-refusal-requires
+    same-length
+    returns
+    same-length-2
+    returns-2)

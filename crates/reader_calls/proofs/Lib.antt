@@ -1,0 +1,3 @@
+mod Loan
+mod Local
+mod Called
