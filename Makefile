@@ -28,7 +28,6 @@ emdfcheck:
 lib:
 	@mkdir -p target
 	@rt staticlib emdf_host >target/lib.log 2>&1 || { cat target/lib.log; exit 1; }
-	@rm -f target/staticlib/libemdf_trials.a # made by tests/differential/run, of the same crates
 
 emdf: lib
 	@mkdir -p target/bin
