@@ -258,7 +258,7 @@ static const char *find_hint(const struct edit *edit, uint32_t number)
 /* A refusal is the file's fault where it comes from reading it, else the edit's. */
 static int say_refused(const struct carriers *c, const struct edit *edit, size_t i, uint32_t number)
 {
-    int is_of_file = number <= EMDF_NONZERO_PADDING || number == EMDF_TRAILING_BYTES;
+    int is_of_file = number <= EMDF_NONZERO_PADDING || number == EMDF_TRAILING_BYTES || number == EMDF_TRUNCATED_HEADER;
     fputs("emdf: ", stderr);
     if (is_of_file) {
         print_text(stderr, c->source.name);

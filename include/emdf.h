@@ -20,14 +20,14 @@ extern "C" {
 
 /* The version of what the calls take and answer. It rises whenever the size or the meaning of an answer, a row, settings or a
    refusal changes. emdf_version() is the archive's: where the two differ, the header is of another library. */
-#define EMDF_VERSION 1
+#define EMDF_VERSION 2
 uint32_t emdf_version(void);
 
 /* What a call returns: 0, or the number of the refusal, whose figures are the answer's first two numbers (of
    emdf_classify, the two after the class). */
 enum {
     EMDF_ACCEPTED = 0,
-    EMDF_TRUNCATED_CONTAINER = 1, /* declared, available (bytes) */
+    EMDF_TRUNCATED_CONTAINER = 1, /* the bytes that the header declares are not all there: declared, available (bytes) */
     EMDF_INVALID_SYNCWORD = 2,    /* actual */
     EMDF_END_OF_INPUT = 3,        /* requested, remaining (bits) */
     EMDF_INVALID_WIDTH = 4,       /* width */
@@ -48,7 +48,8 @@ enum {
     EMDF_TOO_LONG = 18,
     EMDF_SCRATCH_TOO_SHORT = 19,  /* of emdf_move_body: needed (bytes) */
     EMDF_DESTINATION_TOO_SHORT = 19, /* of an edit: needed (bytes) */
-    EMDF_TRAILING_BYTES = 20      /* of an edit: the source is more than one carrier */
+    EMDF_TRAILING_BYTES = 20,     /* of an edit: the source is more than one carrier */
+    EMDF_TRUNCATED_HEADER = 21    /* fewer bytes than a header has: 4, available (bytes) */
 };
 
 /* The most bytes that a carrier has, and the most payloads: buffers of these sizes are long enough for every carrier. */
@@ -249,9 +250,10 @@ uint32_t emdf_byte_align(const uint8_t *bytes, size_t length, size_t position, s
 uint32_t emdf_variable_bits(const uint8_t *bytes, size_t length, size_t position, size_t end, uint8_t width, uint8_t limit,
                             uint8_t answer[EMDF_BIT_ANSWER_BYTES]);
 
-/* A reading is what each call on a carrier begins with. Asked: 1 (are 4 bytes there?), 2, 1 (are the declared bytes there?); then
-   field by field, in the carrier's order, 3 of each read, 7 and 6 of a variable field as above, 7 of its sum with an escape, 9
-   right after reserved bits; 8 after the version and before the key id; 10 after both protection codes; 11 and 12 at the end. */
+/* A reading is what each call on a carrier begins with. Asked: 21 (are 4 bytes there?), 2, 1 (are the declared bytes there?);
+   then field by field, in the carrier's order, 3 of each read, 7 and 6 of a variable field as above, 7 of its sum with an escape,
+   9 right after reserved bits; 8 after the version and before the key id; 10 after both protection codes; 11 and 12 at the
+   end. */
 
 /* What a range of bytes is. Returns 0 unless it is EMDF_MALFORMED. Asked, where it has 2 bytes and they are the sync word: the
    reading. */

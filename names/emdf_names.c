@@ -13,7 +13,7 @@ struct refusal {
 /* By the refusal's number; 16 and 19 are said of a body and of an edit alike. */
 static const struct refusal REFUSALS[] = {
     {"accepted", {NULL, NULL}},
-    {"too few bytes", {"needed", "available"}},
+    {"fewer bytes than the header declares", {"declared", "available"}},
     {"no sync word", {"actual", NULL}},
     {"too few bits for a field", {"requested", "remaining"}},
     {"a width above 64", {"width", NULL}},
@@ -33,6 +33,7 @@ static const struct refusal REFUSALS[] = {
     {"more than 65535 bytes to declare", {NULL, NULL}},
     {"the destination is too short", {"needed", NULL}},
     {"bytes after the carrier", {NULL, NULL}},
+    {"fewer bytes than a header has", {"needed", "available"}},
 };
 
 static const struct refusal UNLISTED = {"a refusal that has no words here", {"first", "second"}};

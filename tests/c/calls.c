@@ -2,8 +2,9 @@
 
 /* 4 and 5 are no refusals of a reading: its widths and limits are fixed. */
 #define BIT(n) (UINT32_C(1) << (n))
-#define FIELDS_REFUSED (BIT(1) | BIT(3) | BIT(6) | BIT(7) | BIT(8) | BIT(9) | BIT(10) | BIT(11) | BIT(12))
-#define READING (BIT(0) | BIT(2) | FIELDS_REFUSED)
+#define FIELDS_REFUSED (BIT(3) | BIT(6) | BIT(7) | BIT(8) | BIT(9) | BIT(10) | BIT(11) | BIT(12))
+#define CUT (BIT(1) | BIT(21))
+#define READING (BIT(0) | BIT(2) | CUT | FIELDS_REFUSED)
 #define EDIT (READING | BIT(19) | BIT(20))
 
 /* What is read is writable, and a drop shortens: so 17 and 18 aren't everybody's. */
@@ -15,7 +16,7 @@ const struct facts FACTS[CALLS] = {
     {"emdf_take_bits", EMDF_BIT_ANSWER_BYTES, BIT(0) | BIT(3), 0, 0},
     {"emdf_byte_align", EMDF_BIT_ANSWER_BYTES, BIT(0) | BIT(3), 0, 0},
     {"emdf_variable_bits", EMDF_BIT_ANSWER_BYTES, BIT(0) | BIT(3) | BIT(5) | BIT(6) | BIT(7), 0, 0},
-    {"emdf_classify", EMDF_CLASS_ANSWER_BYTES, BIT(0) | FIELDS_REFUSED, 0, 1},
+    {"emdf_classify", EMDF_CLASS_ANSWER_BYTES, BIT(0) | CUT | FIELDS_REFUSED, 0, 1},
     {"emdf_read", EMDF_READ_ANSWER_BYTES, READING | BIT(13), 1, 1},
     {"emdf_move_body", EMDF_MOVE_ANSWER_BYTES, READING | BIT(16) | BIT(19), 1, 1},
     {"emdf_verdict", EMDF_VERDICT_ANSWER_BYTES, READING | BIT(14) | BIT(15), 0, 1},

@@ -4,7 +4,7 @@
 
 #include "seeds.h"
 
-const struct reading UNREAD = {EMDF_TRUNCATED_CONTAINER, {0}, NULL};
+const struct reading UNREAD = {EMDF_TRUNCATED_HEADER, {0}, NULL};
 
 static uint64_t number_at(const struct input *in, size_t at, size_t bytes)
 {

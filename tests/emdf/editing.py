@@ -130,8 +130,10 @@ def readings():
         yield edit_case("edit: " + name, ["key", "1"], data, None, ("emdf: in: " + said).encode(), 1)
         yield case("body: " + name, ["body", name, "0"], {name: data}, err=("emdf: %s: %s" % (name, said)).encode(), status=1)
     for words in (["drop", "7"], ["set", "0", "priority=1"], ["insert", "9", "id=0"], ["protection", "-", "-"]):
-        said = b"emdf: in: refused, 1: too few bytes (needed 3, available 2)\n"
+        said = b"emdf: in: refused, 1: fewer bytes than the header declares (declared 3, available 2)\n"
         yield edit_case("a reading before " + words[0], words, A[:-1], None, said, 1)
+        said = b"emdf: in: refused, 21: fewer bytes than a header has (needed 4, available 3)\n"
+        yield edit_case("21 before " + words[0], words, A[:3], None, said, 1)
         yield edit_case("20 before " + words[0], words, A + b"\0", None, b"emdf: in: refused, 20: bytes after the carrier\n", 1)
     said = b"emdf: standard input: refused, 20: bytes after the carrier\n"
     yield edit_case("20 of standard input", ["drop", "0"], A + bytes(MOST - len(A)), None, said, 1, through_pipes=True)

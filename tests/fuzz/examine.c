@@ -210,17 +210,24 @@ static void check_class(const struct outcome *o, const struct reading *own, cons
         failed("the class disagrees with the reading");
 }
 
+static int is_of_reading(uint32_t number)
+{
+    return (number >= EMDF_TRUNCATED_CONTAINER && number <= EMDF_NONZERO_PADDING) || number == EMDF_TRUNCATED_HEADER;
+}
+
 /* Every call on a carrier begins with the same reading. */
 static void check_reading(const struct request *r, const struct outcome *o, const struct reading *own)
 {
     int is_edit = r->call >= EDIT_BODY;
     int has_more = own->number == 0 && emdf_word(own->answer, EMDF_BYTES_CONSUMED) < r->source.length;
 
+    if ((own->number == EMDF_TRUNCATED_HEADER) != (r->source.length < 4))
+        failed("21 does not tell fewer than 4 bytes");
     if (r->call == CLASSIFY)
         check_class(o, own, &r->source);
     else if (own->number != 0 && (o->number != own->number || memcmp(o->answer, own->answer, FIGURES_BYTES) != 0))
         failed("the refusal is not the reading's");
-    else if (own->number == 0 && o->number >= 1 && o->number <= EMDF_NONZERO_PADDING)
+    else if (own->number == 0 && is_of_reading(o->number))
         failed("a reading's refusal of a carrier that reads");
     else if (is_edit && own->number == 0 && has_more != (o->number == EMDF_TRAILING_BYTES))
         failed("20 does not tell bytes after the carrier");

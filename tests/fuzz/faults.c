@@ -150,7 +150,15 @@ static uint32_t returns_unknown_number(const struct request *r)
 {
     uint32_t number = make_call(r);
 
-    return number == EMDF_NONZERO_PADDING ? 21 : number;
+    return number == EMDF_NONZERO_PADDING ? 99 : number;
+}
+
+/* As if a header that is cut off were a body that is. */
+static uint32_t answers_1_for_21(const struct request *r)
+{
+    uint32_t number = make_call(r);
+
+    return number == EMDF_TRUNCATED_HEADER ? EMDF_TRUNCATED_CONTAINER : number;
 }
 
 static uint32_t returns_other_refusal(const struct request *r)
@@ -238,6 +246,7 @@ const struct fault FAULTS[] = {
     {"answers 19 without measuring", answers_19_unmeasured},
     {"answers 13 without measuring", answers_13_unread},
     {"returns a number that is none", returns_unknown_number},
+    {"answers 1 for 21", answers_1_for_21},
     {"returns another refusal", returns_other_refusal},
     {"answers by an earlier call", keeps_state},
     {"copies the source for each edit", copies_source},

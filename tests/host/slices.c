@@ -97,34 +97,34 @@ static void check_bits(void)
 static void check_carriers(void)
 {
     CLASS(emdf_classify(NONE, answer), EMDF_ACCEPTED, EMDF_NON_EMDF);
-    READING(emdf_read(NONE, NONE, answer), EMDF_TRUNCATED_CONTAINER, 4, 0);
-    READING(emdf_read(NONE, OF(room), answer), EMDF_TRUNCATED_CONTAINER, 4, 0);
+    READING(emdf_read(NONE, NONE, answer), EMDF_TRUNCATED_HEADER, 4, 0);
+    READING(emdf_read(NONE, OF(room), answer), EMDF_TRUNCATED_HEADER, 4, 0);
     READING(emdf_read(OF(A), NONE, answer), EMDF_ACCEPTED, sizeof A, 0, 0, 1, 0, 0xa5, 0, 0, 0);
     READING(emdf_read(OF(B), NONE, answer), EMDF_TABLE_TOO_SHORT, 1);
-    BODY(emdf_move_body(NONE, 0, NONE, answer), EMDF_TRUNCATED_CONTAINER, 4, 0);
-    BODY(emdf_move_body(NONE, 0, OF(room), answer), EMDF_TRUNCATED_CONTAINER, 4, 0);
+    BODY(emdf_move_body(NONE, 0, NONE, answer), EMDF_TRUNCATED_HEADER, 4, 0);
+    BODY(emdf_move_body(NONE, 0, OF(room), answer), EMDF_TRUNCATED_HEADER, 4, 0);
     BODY(emdf_move_body(OF(A), 0, NONE, answer), EMDF_NO_SUCH_PAYLOAD);
     BODY(emdf_move_body(OF(B), 0, NONE, answer), EMDF_ACCEPTED, 56, 1);
     BODY(emdf_move_body(OF(B_EMPTY), 0, NONE, answer), EMDF_ACCEPTED, 56, 0);
     BODY(emdf_move_body(OF(UNALIGNED), 0, NONE, answer), EMDF_SCRATCH_TOO_SHORT, 1);
-    VERDICT(emdf_verdict(NONE, EMDF_STRICT, answer), EMDF_TRUNCATED_CONTAINER, 4, 0);
-    VERDICT(emdf_verdict(NONE, EMDF_COMPAT, answer), EMDF_TRUNCATED_CONTAINER, 4, 0);
+    VERDICT(emdf_verdict(NONE, EMDF_STRICT, answer), EMDF_TRUNCATED_HEADER, 4, 0);
+    VERDICT(emdf_verdict(NONE, EMDF_COMPAT, answer), EMDF_TRUNCATED_HEADER, 4, 0);
 }
 
 static void check_sources(void)
 {
-    REFUSED(emdf_edit_body(NONE, 0, OF(C3), OF(room), answer), EMDF_TRUNCATED_CONTAINER, 4, 0);
-    REFUSED(emdf_edit_body(NONE, 0, NONE, NONE, answer), EMDF_TRUNCATED_CONTAINER, 4, 0);
-    REFUSED(emdf_edit_settings(NONE, 0, BARE, OF(room), answer), EMDF_TRUNCATED_CONTAINER, 4, 0);
-    REFUSED(emdf_edit_settings(NONE, 0, NONE, NONE, answer), EMDF_TRUNCATED_CONTAINER, 4, 0);
-    REFUSED(emdf_edit_drop(NONE, 0, OF(room), answer), EMDF_TRUNCATED_CONTAINER, 4, 0);
-    REFUSED(emdf_edit_drop(NONE, 0, NONE, answer), EMDF_TRUNCATED_CONTAINER, 4, 0);
-    REFUSED(emdf_edit_insert(NONE, 0, 1, BARE, OF(C3), OF(room), answer), EMDF_TRUNCATED_CONTAINER, 4, 0);
-    REFUSED(emdf_edit_insert(NONE, 0, 1, NONE, NONE, NONE, answer), EMDF_TRUNCATED_CONTAINER, 4, 0);
-    REFUSED(emdf_edit_key(NONE, 1, OF(room), answer), EMDF_TRUNCATED_CONTAINER, 4, 0);
-    REFUSED(emdf_edit_key(NONE, 1, NONE, answer), EMDF_TRUNCATED_CONTAINER, 4, 0);
-    REFUSED(emdf_edit_protection(NONE, OF(A5), OF(A5), OF(room), answer), EMDF_TRUNCATED_CONTAINER, 4, 0);
-    REFUSED(emdf_edit_protection(NONE, NONE, NONE, NONE, answer), EMDF_TRUNCATED_CONTAINER, 4, 0);
+    REFUSED(emdf_edit_body(NONE, 0, OF(C3), OF(room), answer), EMDF_TRUNCATED_HEADER, 4, 0);
+    REFUSED(emdf_edit_body(NONE, 0, NONE, NONE, answer), EMDF_TRUNCATED_HEADER, 4, 0);
+    REFUSED(emdf_edit_settings(NONE, 0, BARE, OF(room), answer), EMDF_TRUNCATED_HEADER, 4, 0);
+    REFUSED(emdf_edit_settings(NONE, 0, NONE, NONE, answer), EMDF_TRUNCATED_HEADER, 4, 0);
+    REFUSED(emdf_edit_drop(NONE, 0, OF(room), answer), EMDF_TRUNCATED_HEADER, 4, 0);
+    REFUSED(emdf_edit_drop(NONE, 0, NONE, answer), EMDF_TRUNCATED_HEADER, 4, 0);
+    REFUSED(emdf_edit_insert(NONE, 0, 1, BARE, OF(C3), OF(room), answer), EMDF_TRUNCATED_HEADER, 4, 0);
+    REFUSED(emdf_edit_insert(NONE, 0, 1, NONE, NONE, NONE, answer), EMDF_TRUNCATED_HEADER, 4, 0);
+    REFUSED(emdf_edit_key(NONE, 1, OF(room), answer), EMDF_TRUNCATED_HEADER, 4, 0);
+    REFUSED(emdf_edit_key(NONE, 1, NONE, answer), EMDF_TRUNCATED_HEADER, 4, 0);
+    REFUSED(emdf_edit_protection(NONE, OF(A5), OF(A5), OF(room), answer), EMDF_TRUNCATED_HEADER, 4, 0);
+    REFUSED(emdf_edit_protection(NONE, NONE, NONE, NONE, answer), EMDF_TRUNCATED_HEADER, 4, 0);
 }
 
 /* Bodies, settings, protections. */

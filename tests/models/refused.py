@@ -3,7 +3,7 @@ from models.profile import WANTED
 from models.writer import DISCARD, Writer
 
 WORDS = {
-    1: ("too few bytes", "needed", "available"),
+    1: ("fewer bytes than the header declares", "declared", "available"),
     2: ("no sync word", "actual"),
     3: ("too few bits for a field", "requested", "remaining"),
     6: ("a variable field has too many groups", "width", "limit"),
@@ -19,6 +19,7 @@ WORDS = {
     17: ("the contents cannot be written",),
     18: ("more than 65535 bytes to declare",),
     20: ("bytes after the carrier",),
+    21: ("fewer bytes than a header has", "needed", "available"),
 }
 
 # Figures that are shown as bits.
@@ -112,13 +113,18 @@ def reserved_length(*payloads):
 
 # Bytes, the number that a reading refuses them with, and its figures, in the order of the questions.
 UNREAD = {
-    "empty": (b"", 1, 4, 0),
-    "one-byte": (b"\x58", 1, 4, 1),
-    "sync-word-alone": (A[:2], 1, 4, 2),
-    "three-bytes": (A[:3], 1, 4, 3),
-    "byte-missing": (A[:-1], 1, 3, 2),
+    "empty": (b"", 21, 4, 0),
+    "one-byte": (b"\x58", 21, 4, 1),
+    "sync-word-alone": (A[:2], 21, 4, 2),
+    # Without a sync word too.
+    "two-zeros": (bytes(2), 21, 4, 2),
+    "three-bytes": (A[:3], 21, 4, 3),
     "zeros": (bytes(4), 2, 0),
     "other-sync-word": (b"\x58\x39" + A[2:], 2, 0x5839),
+    "byte-missing": (A[:-1], 1, 3, 2),
+    # The figures are those of the sync word alone.
+    "two-bytes-missing": (bytes.fromhex("583800040000"), 1, 4, 2),
+    "header-alone": (bytes.fromhex("5838ffff"), 1, 65535, 0),
     "nothing-declared": (bytes.fromhex("58380000"), 3, 2, 0),
     "declared-shorter": (bytes.fromhex("58380002001294"), 3, 8, 2),
     "long-size": (long_size(), 6, 8, 2),

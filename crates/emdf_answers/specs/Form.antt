@@ -21,4 +21,4 @@ words (v ∷ vs) = bigEndian 8 v ++ words vs
 
 -- the version of the forms: it rises whenever the size or the meaning of an answer, a row, settings or a refusal changes
 unfoldable pub version : ℕ
-version = 1
+version = 2

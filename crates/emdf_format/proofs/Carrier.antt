@@ -15,6 +15,7 @@ use Rattle.openjoc_bitio.specs.Choice.{if_then_else_}
 use Rattle.openjoc_bitio.specs.Bits.{bitsValue, numberBits}
 use Rattle.openjoc_bitio.specs.Cursor.{bitLength}
 use Rattle.openjoc_bitio.proofs.Bits.{length-number, value-take, value-append, value-range}
+use Rattle.emdf_format.specs.declared.TruncatedPart.the-variants as TruncatedPart
 use Rattle.emdf_format.specs.declared.EmdfError.the-variants.{TruncatedContainer, InvalidSyncword}
 use Rattle.emdf_format.specs.Contents.{Contents, writable, contentsAreBytes, containerBits, declared, carrierBits, bytesOf, carrier}
 use Rattle.emdf_format.specs.Reader.{Read, got, refused}
@@ -48,7 +49,7 @@ header s n c h = go (ltb (length s) 4) (eqb (bitsValue s 0 16) 0x5838) (ltb (len
   where
     go : (x y z : Bool) → ltb (length s) 4 ≡ x → eqb (bitsValue s 0 16) 0x5838 ≡ y → ltb (length s - 4) (bitsValue s 16 16) ≡ z
         → (r : Read Container) → container (take (4 + bitsValue s 16 16) s) (8 * (4 + bitsValue s 16 16)) 32 ≡ r
-        → (if x then refusal (TruncatedContainer 4 (length s)) else (if not y then refusal (InvalidSyncword (bitsValue s 0 16)) else (if z then refusal (TruncatedContainer (bitsValue s 16 16) (length s - 4)) else consumed (4 + bitsValue s 16 16) r))) ≡ accepted n c
+        → (if x then refusal (TruncatedContainer TruncatedPart.Header 4 (length s)) else (if not y then refusal (InvalidSyncword (bitsValue s 0 16)) else (if z then refusal (TruncatedContainer TruncatedPart.Body (bitsValue s 16 16) (length s - 4)) else consumed (4 + bitsValue s 16 16) r))) ≡ accepted n c
         → Header s n c
     go true y z a b e r f g = absurd (let z : _≡_ {A = ℕ} 0 1 = cc in omega arith)
     go false false z a b e r f g = absurd (let z : _≡_ {A = ℕ} 0 1 = cc in omega arith)

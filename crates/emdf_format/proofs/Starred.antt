@@ -9,6 +9,7 @@ use Rattle.openjoc_bitio.specs.Cursor.{bitLength, bitsRemaining, readBits}
 use Rattle.openjoc_bitio.specs.declared.BitError.the-variants.{EndOfInput}
 use Rattle.emdf_format.specs.declared.Optional.{Optional}
 use Rattle.emdf_format.specs.declared.Optional.the-variants.{Absent, Present}
+use Rattle.emdf_format.specs.declared.TruncatedPart.the-variants as TruncatedPart
 use Rattle.emdf_format.specs.declared.EmdfError.the-variants.{TruncatedContainer, Bit, ExcessPadding}
 use Rattle.emdf_format.specs.declared.EmdfPayloadConfig.{EmdfPayloadConfig}
 use Rattle.emdf_format.specs.declared.Refusal.the-variants.{One, Two}
@@ -78,8 +79,10 @@ pub record Starred : Type 0 where
   pub body-writes : edited (bodyEdit 0 []) B eleven .destination ≡ emptied ++ 9 ∷ []
   pub ten-left : reading (0x58 ∷ 0x38 ∷ 0x00 ∷ 0x04 ∷ 0x00 ∷ 0x12 ∷ 0x94 ∷ 0x00 ∷ []) ≡ refusal (ExcessPadding 10)
   pub ten-left-refusal : refusalOf (ExcessPadding 10) ≡ One 11 10
-  pub two-bytes : reading (0x58 ∷ 0x38 ∷ []) ≡ refusal (TruncatedContainer 4 2)
-  pub two-bytes-refusal : refusalOf (TruncatedContainer 4 2) ≡ Two 1 4 2
+  pub two-bytes : reading (0x58 ∷ 0x38 ∷ []) ≡ refusal (TruncatedContainer TruncatedPart.Header 4 2)
+  pub two-bytes-refusal : refusalOf (TruncatedContainer TruncatedPart.Header 4 2) ≡ Two 21 4 2
+  pub two-bytes-missing : reading (0x58 ∷ 0x38 ∷ 0x00 ∷ 0x04 ∷ 0x00 ∷ 0x00 ∷ []) ≡ refusal (TruncatedContainer TruncatedPart.Body 4 2)
+  pub two-bytes-missing-refusal : refusalOf (TruncatedContainer TruncatedPart.Body 4 2) ≡ Two 1 4 2
   pub one-byte : classify (0x58 ∷ []) ≡ nonEmdf
   pub A-trailed : classify (A ++ 0x00 ∷ []) ≡ trailingData 7 8
   pub three : variableField 2 3 ≡ 1 ∷ 1 ∷ 0 ∷ []
@@ -108,6 +111,8 @@ starred = record {
   ten-left-refusal = refl;
   two-bytes = refl;
   two-bytes-refusal = refl;
+  two-bytes-missing = refl;
+  two-bytes-missing-refusal = refl;
   one-byte = refl;
   A-trailed = refl;
   three = refl;

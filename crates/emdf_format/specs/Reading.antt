@@ -8,6 +8,7 @@ use Rattle.openjoc_bitio.specs.Choice.{if_then_else_}
 use Rattle.openjoc_bitio.specs.Bits.{bitsValue}
 use Rattle.openjoc_bitio.specs.declared.BitError.the-variants.{EndOfInput}
 use Rattle.emdf_format.specs.Types.{Optional, EmdfError, EmdfPayloadConfig, EmdfPayloadBitTrace, PayloadRecord}
+use Rattle.emdf_format.specs.declared.TruncatedPart.the-variants as TruncatedPart
 use Rattle.emdf_format.specs.declared.EmdfError.the-variants.{TruncatedContainer, InvalidSyncword, Bit, UnsupportedVersion, NonzeroReservedData, ReservedPrimaryProtectionLength, ExcessPadding, NonzeroPadding}
 use Rattle.emdf_format.specs.Syntax.{syncword}
 use Rattle.emdf_format.specs.Contents.{Payload, Contents, hasAligned, isOne, hasPriority, protectionLength}
@@ -160,11 +161,11 @@ reading s =
     let sync : ℕ = bitsValue s 0 16 in
     let d : ℕ = bitsValue s 16 16 in
     if ltb (length s) 4
-    then refusal (TruncatedContainer 4 (length s))
+    then refusal (TruncatedContainer TruncatedPart.Header 4 (length s))
     else (if not (eqb sync syncword)
     then refusal (InvalidSyncword sync)
     else (if ltb (length s - 4) d
-    then refusal (TruncatedContainer d (length s - 4))
+    then refusal (TruncatedContainer TruncatedPart.Body d (length s - 4))
     else consumed (4 + d) (container (take (4 + d) s) (8 * (4 + d)) 32)))
 
 -- ---- the contents that a reading finds

@@ -1,6 +1,7 @@
 -- Each refusal's number and figures: the scope's list of questions. Assumes nothing.
 use Rattle.openjoc_bitio.specs.declared.BitError.the-variants.{EndOfInput, InvalidWidth}
 use Rattle.emdf_format.specs.Types.{EmdfError, RecordsError, JocProfileError, BodyError, EditError, Refusal, Figures}
+use Rattle.emdf_format.specs.declared.TruncatedPart.the-variants as TruncatedPart
 use Rattle.emdf_format.specs.declared.EmdfError.the-variants.{TruncatedContainer, InvalidSyncword, Bit, InvalidVariableBits, VariableBitsGroupLimit, ValueOverflow, UnsupportedVersion, NonzeroReservedData, ReservedPrimaryProtectionLength, ExcessPadding, NonzeroPadding}
 use Rattle.emdf_format.specs.declared.RecordsError.the-variants as RecordsError
 use Rattle.emdf_format.specs.declared.JocProfileError.the-variants as JocProfileError
@@ -9,7 +10,8 @@ use Rattle.emdf_format.specs.declared.EditError.the-variants as EditErro
 use Rattle.emdf_format.specs.declared.Refusal.the-variants.{Bare, One, Two}
 
 abbrev pub refusalOf : EmdfError → Refusal
-refusalOf (TruncatedContainer declared available) = Two 1 declared available
+refusalOf (TruncatedContainer TruncatedPart.Header declared available) = Two 21 declared available
+refusalOf (TruncatedContainer TruncatedPart.Body declared available) = Two 1 declared available
 refusalOf (InvalidSyncword actual) = One 2 actual
 refusalOf (Bit (EndOfInput requested remaining)) = Two 3 requested remaining
 refusalOf (Bit (InvalidWidth width)) = One 4 width

@@ -21,18 +21,40 @@ pub const MAX_SIZE_GROUPS: u8 = 2;
 // A container declares its length in 16 bits.
 pub const MAX_DECLARED: usize = 65535;
 
+// What of a carrier is cut off: its first four bytes, or bytes that they declare.
+pub enum TruncatedPart {
+    Header,
+    Body,
+}
+
 // Why a reading is refused.
 pub enum EmdfError {
-    TruncatedContainer { declared: usize, available: usize },
-    InvalidSyncword { actual: u16 },
+    TruncatedContainer {
+        part: TruncatedPart,
+        declared: usize,
+        available: usize,
+    },
+    InvalidSyncword {
+        actual: u16,
+    },
     Bit(BitError),
-    InvalidVariableBits { width: u8, limit: u8 },
-    VariableBitsGroupLimit { width: u8, limit: u8 },
+    InvalidVariableBits {
+        width: u8,
+        limit: u8,
+    },
+    VariableBitsGroupLimit {
+        width: u8,
+        limit: u8,
+    },
     ValueOverflow,
-    UnsupportedVersion { version: u64 },
+    UnsupportedVersion {
+        version: u64,
+    },
     NonzeroReservedData,
     ReservedPrimaryProtectionLength,
-    ExcessPadding { bits: usize },
+    ExcessPadding {
+        bits: usize,
+    },
     NonzeroPadding,
 }
 

@@ -9,6 +9,7 @@ use lib.Dec.{eqb, lit<}
 use Rattle.openjoc_bitio.specs.Choice.{if_then_else_}
 use Rattle.openjoc_bitio.specs.declared.ByteCount.{ByteCount}
 use Rattle.openjoc_bitio.specs.declared.BitError.the-variants.{EndOfInput, InvalidWidth}
+use Rattle.emdf_format.specs.declared.TruncatedPart.the-variants as TruncatedPart
 use Rattle.emdf_format.specs.declared.EmdfError.the-variants.{TruncatedContainer, InvalidSyncword, Bit, InvalidVariableBits, VariableBitsGroupLimit, ValueOverflow, UnsupportedVersion, NonzeroReservedData, ReservedPrimaryProtectionLength, ExcessPadding, NonzeroPadding}
 use Rattle.emdf_format.specs.declared.EditError.{EditError}
 use Rattle.emdf_format.specs.declared.EditError.the-variants.{Emdf, TrailingData, NoSuchPlace, NotWritable, TooLong, DestinationTooShort}
@@ -48,7 +49,8 @@ written-small e src dst n = go (stepFrom (reading src) (length src) e (length ds
 
 refused-next : (why : EditError) (src answer exit : List ℕ) → nextCarrier src (figuresOf (editRefusal why) .number) answer exit ≡ src
 unfolding nextCarrier
-refused-next (Emdf (TruncatedContainer d a)) src answer exit = refl
+refused-next (Emdf (TruncatedContainer TruncatedPart.Header d a)) src answer exit = refl
+refused-next (Emdf (TruncatedContainer TruncatedPart.Body d a)) src answer exit = refl
 refused-next (Emdf (InvalidSyncword a)) src answer exit = refl
 refused-next (Emdf (Bit (EndOfInput n r))) src answer exit = refl
 refused-next (Emdf (Bit (InvalidWidth w))) src answer exit = refl

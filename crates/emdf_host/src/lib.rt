@@ -21,7 +21,7 @@ use openjoc_emdf::OpenAnswer;
 pub extern "C" fn emdf_version() -> u32
     ensures { λ r. ⌜ r ≡ version ⌝ }
 {
-    1
+    2
 }
 
 #[no_mangle]

@@ -8,6 +8,7 @@ use emdf_format::Figures;
 use emdf_format::JocProfileError;
 use emdf_format::RecordsError;
 use emdf_format::Refusal;
+use emdf_format::TruncatedPart;
 use openjoc_bitio::BitError;
 
 pub fn refusal_of(why: EmdfError) -> Refusal
@@ -15,9 +16,13 @@ pub fn refusal_of(why: EmdfError) -> Refusal
 {
     match why {
         EmdfError::TruncatedContainer {
+            part,
             declared,
             available,
-        } => Refusal::Two(1, declared as u64, available as u64),
+        } => match part {
+            TruncatedPart::Header => Refusal::Two(21, declared as u64, available as u64),
+            TruncatedPart::Body => Refusal::Two(1, declared as u64, available as u64),
+        },
         EmdfError::InvalidSyncword { actual } => Refusal::One(2, actual as u64),
         EmdfError::Bit(inner) => match inner {
             BitError::EndOfInput {

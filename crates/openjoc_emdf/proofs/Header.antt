@@ -14,6 +14,7 @@ use Rattle.emdf_format.specs.Contents.{_&_}
 use Rattle.emdf_format.specs.Reader.{Read, got, refused}
 use Rattle.emdf_format.specs.Reading.{Container, Reading, accepted, refusal, container, consumed, reading}
 use Rattle.emdf_format.specs.Calls.{parsed, trailingData, classOf, classify}
+use Rattle.emdf_format.specs.declared.TruncatedPart.the-variants as TruncatedPart
 use Rattle.emdf_format.specs.declared.EmdfError.the-variants.{TruncatedContainer, InvalidSyncword}
 use Rattle.emdf_format.proofs.Bytes.{byte-value}
 use Rattle.openjoc_emdf.specs.Answers.{parsedOf, parseAnswer, classAnswer, classifiedOf}
@@ -38,7 +39,7 @@ by-test n len c true = refl
 by-test n len c false = refl
 
 module _ (s : List ℕ) where
-  pub too-short : length s < 4 → ParseAnswer.Refused (TruncatedContainer 4 (length s)) ≡ parseAnswer (reading s)
+  pub too-short : length s < 4 → ParseAnswer.Refused (TruncatedContainer TruncatedPart.Header 4 (length s)) ≡ parseAnswer (reading s)
   unfolding reading parseAnswer
   too-short h = simp (lt-ltb (length s) 4 h)
 
@@ -47,7 +48,7 @@ module _ (s : List ℕ) where
   no-sync {w} h e n = simp (le-ltb (length s) 4 h, ← e, ne-eqb w 0x5838 n)
 
   pub cut : {w d : ℕ} → 4 ≤ length s → w ≡ bitsValue s 0 16 → w ≡ 0x5838 → d ≡ bitsValue s 16 16 → length s - 4 < d
-      → ParseAnswer.Refused (TruncatedContainer d (length s - 4)) ≡ parseAnswer (reading s)
+      → ParseAnswer.Refused (TruncatedContainer TruncatedPart.Body d (length s - 4)) ≡ parseAnswer (reading s)
   unfolding reading parseAnswer
   cut {w} {d} h e y f l = simp (le-ltb (length s) 4 h, ← e, eq-eqb w 0x5838 y, ← f, lt-ltb (length s - 4) d l)
 

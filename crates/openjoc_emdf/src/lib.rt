@@ -12,6 +12,7 @@ use emdf_container::EmdfContainer;
 use emdf_fields::FieldAnswer;
 use emdf_format::EmdfError;
 use emdf_format::SYNCWORD;
+use emdf_format::TruncatedPart;
 use openjoc_bitio::BitCursor;
 use openjoc_bitio::ByteCount;
 
@@ -55,6 +56,7 @@ pub fn parse_emdf_sync(bytes: &[u8]) -> ParseAnswer
     let length = bytes.len();
     if length < 4 {
         return ParseAnswer::Refused(EmdfError::TruncatedContainer {
+            part: TruncatedPart::Header,
             declared: 4,
             available: length,
         });
@@ -67,6 +69,7 @@ pub fn parse_emdf_sync(bytes: &[u8]) -> ParseAnswer
     let available = length - 4;
     if available < declared {
         return ParseAnswer::Refused(EmdfError::TruncatedContainer {
+            part: TruncatedPart::Body,
             declared,
             available,
         });

@@ -43,8 +43,8 @@ returns-3 c = cut _ (c .before .before .before .before .before .before .before .
 add-n : tie.Need-add-n
 add-n c = search needs
 
-mul-t19 : tie.Need-mul-t19
-mul-t19 c = search needs
+mul-t21 : tie.Need-mul-t21
+mul-t21 c = search needs
 
 slice-aggregate-parse-container : tie.Need-slice-aggregate-parse-container
 slice-aggregate-parse-container c = sym (length-take-le _ (now (c .before .before .before .before .before .before .before .before .before .before .before .args .bytes)) (omega arith))
@@ -73,7 +73,7 @@ parse-emdf-sync-spec =
     cast-declared
     returns-3
     add-n
-    mul-t19
+    mul-t21
     slice-aggregate-parse-container
     parse-container-requires
     parsed-requires

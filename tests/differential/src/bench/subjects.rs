@@ -1,7 +1,7 @@
 //! What the benchmark measures calls on: carriers, the edges of their fields, and refused bytes.
 
 use differential::carrier::{
-    A, B, HEADER, NOT_ONE_OF_EACH, NO_SYNC_WORD, PADDING_NOT_ZERO, PADDING_TOO_LONG,
+    A, B, HEADER, HEADER_CUT, NOT_ONE_OF_EACH, NO_SYNC_WORD, PADDING_NOT_ZERO, PADDING_TOO_LONG,
     RESERVED_NOT_ZERO, TRUNCATED, VERSION_NOT_ZERO,
 };
 use differential::case::{ACCEPTED, TOO_FEW_BITS};
@@ -144,9 +144,9 @@ fn refused_headers() -> [Input; 6] {
     other_word[1] ^= 1;
     let missing = A[..A.len() - 1].to_vec();
     [
-        Input::new("no bytes", Vec::new(), TRUNCATED),
-        Input::new("58", A[..1].to_vec(), TRUNCATED),
-        Input::new("58 38", A[..2].to_vec(), TRUNCATED),
+        Input::new("no bytes", Vec::new(), HEADER_CUT),
+        Input::new("58", A[..1].to_vec(), HEADER_CUT),
+        Input::new("58 38", A[..2].to_vec(), HEADER_CUT),
         Input::new("a wrong sync word", other_word, NO_SYNC_WORD),
         Input::new("declared bytes missing", missing, TRUNCATED),
         Input::new("declared 0", declaring_all(&A[..HEADER]), TOO_FEW_BITS),

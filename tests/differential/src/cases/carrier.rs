@@ -22,9 +22,10 @@ pub const TOO_LONG: u32 = 18;
 pub const SCRATCH_TOO_SHORT: u32 = 19;
 pub const DESTINATION_TOO_SHORT: u32 = 19;
 pub const BYTES_AFTER: u32 = 20;
+pub const HEADER_CUT: u32 = 21;
 
 /// The numbers that a call can return, 0 among them.
-pub const NUMBERS: usize = 21;
+pub const NUMBERS: usize = 22;
 
 pub const SYNC_WORD: u16 = 0x5838;
 

@@ -1,7 +1,7 @@
 //! Carriers with one thing wrong, and the refusals that the scope has for them.
 
 use crate::carrier::{
-    Found, Refusal, HEADER, MOST_DECLARED, NO_PRIMARY, NO_SYNC_WORD, PADDING_NOT_ZERO,
+    Found, Refusal, HEADER, HEADER_CUT, MOST_DECLARED, NO_PRIMARY, NO_SYNC_WORD, PADDING_NOT_ZERO,
     PADDING_TOO_LONG, RESERVED_NOT_ZERO, SYNC_WORD, TRUNCATED, VERSION_NOT_ZERO,
 };
 use crate::case::{TOO_FEW_BITS, TOO_MANY_GROUPS, VALUE_TOO_LARGE};
@@ -58,7 +58,8 @@ pub fn sums_with_base(contents: &Contents, random: &mut Random) -> [Wrong; 2] {
     [key, id].map(|bits| Wrong::at_the_end(bits, random, VALUE_TOO_LARGE, [0, 0]))
 }
 
-/// Another sync word, more bytes declared than there are, and fewer than a header.
+/// Another sync word, more bytes declared than there are, and fewer than a header; some of these
+/// two with the same figures.
 fn header(contents: &Contents, random: &mut Random) -> Vec<Wrong> {
     let (carrier, _) = contents.written();
     let container = (carrier.len() - HEADER) as u64;
@@ -77,7 +78,10 @@ fn header(contents: &Contents, random: &mut Random) -> Vec<Wrong> {
     }
     for there in 0..HEADER {
         let cut = carrier[..there].to_vec();
-        all.push(Wrong::new(cut, TRUNCATED, [4, there as u64]));
+        all.push(Wrong::new(cut, HEADER_CUT, [4, there as u64]));
+        let mut declaring = carrier[..HEADER + there].to_vec();
+        declaring[2..HEADER].copy_from_slice(&4_u16.to_be_bytes());
+        all.push(Wrong::new(declaring, TRUNCATED, [4, there as u64]));
     }
     all
 }

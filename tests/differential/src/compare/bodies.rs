@@ -4,8 +4,8 @@ use crate::carriers;
 use crate::examine::{Examiner, IN_THE_CARRIER, IN_THE_SCRATCH, NO_BODY, RAREST_PHASE};
 use crate::report::{Difference, Group, Tally};
 use differential::carrier::{
-    NO_PRIMARY, NO_SUCH_PLACE, NO_SYNC_WORD, PADDING_NOT_ZERO, PADDING_TOO_LONG, RESERVED_NOT_ZERO,
-    SCRATCH_TOO_SHORT, TRUNCATED, VERSION_NOT_ZERO,
+    HEADER_CUT, NO_PRIMARY, NO_SUCH_PLACE, NO_SYNC_WORD, PADDING_NOT_ZERO, PADDING_TOO_LONG,
+    RESERVED_NOT_ZERO, SCRATCH_TOO_SHORT, TRUNCATED, VERSION_NOT_ZERO,
 };
 use differential::case::{ACCEPTED, TOO_FEW_BITS, TOO_MANY_GROUPS, VALUE_TOO_LARGE};
 use differential::contents::Contents;
@@ -32,6 +32,7 @@ pub const GROUPS: [Group; 2] = [
         name: "bodies of damaged carriers",
         least: 100,
         outcomes: &[
+            ("move_body", HEADER_CUT),
             ("move_body", TRUNCATED),
             ("move_body", NO_SYNC_WORD),
             ("move_body", TOO_FEW_BITS),

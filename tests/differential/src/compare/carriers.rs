@@ -3,7 +3,7 @@
 use crate::examine::{Examiner, MALFORMED, NON_EMDF, PARSED, RAREST_SETTINGS, TRAILING_DATA};
 use crate::report::{Difference, Group, Outcome, Tally};
 use differential::carrier::{
-    A, MOST_DECLARED, NO_PRIMARY, NO_SYNC_WORD, PADDING_NOT_ZERO, PADDING_TOO_LONG,
+    A, HEADER_CUT, MOST_DECLARED, NO_PRIMARY, NO_SYNC_WORD, PADDING_NOT_ZERO, PADDING_TOO_LONG,
     RESERVED_NOT_ZERO, SYNC_WORD, TABLE_TOO_SHORT, TRUNCATED, VERSION_NOT_ZERO,
 };
 use differential::case::{ACCEPTED, TOO_FEW_BITS, TOO_MANY_GROUPS, VALUE_TOO_LARGE};
@@ -23,6 +23,7 @@ pub const GROUPS: [Group; 5] = [
         least: 100,
         outcomes: &[
             ("classify", ACCEPTED),
+            ("classify", HEADER_CUT),
             ("classify", TRUNCATED),
             ("classify", TOO_FEW_BITS),
             ("classify", VERSION_NOT_ZERO),
@@ -30,6 +31,7 @@ pub const GROUPS: [Group; 5] = [
             ("classify", NO_PRIMARY),
             ("classify", PADDING_NOT_ZERO),
             ("read", ACCEPTED),
+            ("read", HEADER_CUT),
             ("read", TRUNCATED),
             ("read", NO_SYNC_WORD),
             ("read", TOO_FEW_BITS),
@@ -79,7 +81,7 @@ pub const GROUPS: [Group; 5] = [
 ];
 
 /// A reading's widths and bounds are fixed, so there is no 4 and no 5.
-const EVERY_OUTCOME: [Outcome; 45] = [
+const EVERY_OUTCOME: [Outcome; 49] = [
     ("classify", ACCEPTED),
     ("read", ACCEPTED),
     ("read", TABLE_TOO_SHORT),
@@ -87,10 +89,14 @@ const EVERY_OUTCOME: [Outcome; 45] = [
     ("parse_emdf_sync_with_bit_trace", ACCEPTED),
     ("parse_emdf_sync_with_bit_trace", TABLE_TOO_SHORT),
     ("read", NO_SYNC_WORD),
+    ("read", HEADER_CUT),
+    ("classify", HEADER_CUT),
     ("read", TRUNCATED),
     ("classify", TRUNCATED),
     ("parse_emdf_sync", NO_SYNC_WORD),
     ("parse_emdf_sync_with_bit_trace", NO_SYNC_WORD),
+    ("parse_emdf_sync", HEADER_CUT),
+    ("parse_emdf_sync_with_bit_trace", HEADER_CUT),
     ("parse_emdf_sync", TRUNCATED),
     ("parse_emdf_sync_with_bit_trace", TRUNCATED),
     ("classify", TOO_FEW_BITS),
@@ -131,7 +137,7 @@ const EVERY_OUTCOME: [Outcome; 45] = [
 const EVERY_REFUSAL: &[Outcome] = EVERY_OUTCOME.split_at(6).1;
 
 /// All but what only a table or a header gives.
-const INSIDE_A_CONTAINER: &[Outcome] = EVERY_OUTCOME.split_at(13).1;
+const INSIDE_A_CONTAINER: &[Outcome] = EVERY_OUTCOME.split_at(17).1;
 
 /// A field that fits, but not with its escape base added.
 const SUM_WITH_BASE: &str = "sum-with-base";

@@ -4,9 +4,9 @@ use crate::carriers;
 use crate::editing::{Editor, Source, RAREST_ENDS};
 use crate::report::{Difference, Group, Outcome, Tally};
 use differential::carrier::{
-    Refusal, A, B, BYTES_AFTER, DESTINATION_TOO_SHORT, HEADER, MOST_DECLARED, NOT_WRITABLE,
-    NO_PRIMARY, NO_SUCH_PLACE, NO_SYNC_WORD, PADDING_NOT_ZERO, PADDING_TOO_LONG, RESERVED_NOT_ZERO,
-    TOO_LONG, TRUNCATED, VERSION_NOT_ZERO,
+    Refusal, A, B, BYTES_AFTER, DESTINATION_TOO_SHORT, HEADER, HEADER_CUT, MOST_DECLARED,
+    NOT_WRITABLE, NO_PRIMARY, NO_SUCH_PLACE, NO_SYNC_WORD, PADDING_NOT_ZERO, PADDING_TOO_LONG,
+    RESERVED_NOT_ZERO, TOO_LONG, TRUNCATED, VERSION_NOT_ZERO,
 };
 use differential::case::{ACCEPTED, TOO_FEW_BITS, TOO_MANY_GROUPS, VALUE_TOO_LARGE};
 use differential::contents::{Contents, Settings};
@@ -150,7 +150,8 @@ const EDITS: [&str; KINDS] = [
 ];
 
 /// A reading's widths and bounds are fixed, so there is no 4 and no 5.
-const SOURCE_REFUSED: [u32; 11] = [
+const SOURCE_REFUSED: [u32; 12] = [
+    HEADER_CUT,
     TRUNCATED,
     NO_SYNC_WORD,
     TOO_FEW_BITS,

@@ -5,8 +5,8 @@ use crate::library::Replied;
 use crate::report::{Difference, Group, Tally};
 use crate::shrink;
 use differential::carrier::{
-    Reading, Refusal, Reply, BYTES_AFTER, DESTINATION_TOO_SHORT, HEADER, MOST_DECLARED,
-    NOT_WRITABLE, NO_SUCH_PLACE, TOO_LONG,
+    Reading, Refusal, Reply, BYTES_AFTER, DESTINATION_TOO_SHORT, HEADER, HEADER_CUT, MOST_DECLARED,
+    NOT_WRITABLE, NO_SUCH_PLACE, TOO_LONG, TRUNCATED,
 };
 use differential::case::ACCEPTED;
 use differential::contents::Contents;
@@ -75,7 +75,7 @@ const LIMITS: &str = "edits at their limits";
 const BLANK: &str = "blank carriers";
 const LISTS: &str = "lists of edits, two at a time";
 
-const MISTAKES: [Mistake; 18] = [
+const MISTAKES: [Mistake; 19] = [
     Mistake {
         name: "copies the source",
         player: copies_the_source,
@@ -147,6 +147,17 @@ const MISTAKES: [Mistake; 18] = [
             played
         },
         caught_by: &[SHAPES, BLANK, LISTS],
+    },
+    Mistake {
+        name: "answers 1 for 21",
+        player: |edit| {
+            let mut played = faithful(edit);
+            if played.reply.number == HEADER_CUT {
+                played.reply.number = TRUNCATED;
+            }
+            played
+        },
+        caught_by: &[DAMAGED, NOES],
     },
     Mistake {
         name: "asks for the place before the bytes after",

@@ -8,8 +8,8 @@ use crate::reached::{
 };
 use crate::report::{Difference, Group, Tally};
 use differential::carrier::{
-    MOST_DECLARED, NOT_ONE_OF_EACH, NO_PRIMARY, NO_SYNC_WORD, PADDING_NOT_ZERO, PADDING_TOO_LONG,
-    PROFILE_NOT_MET, RESERVED_NOT_ZERO, TRUNCATED, VERSION_NOT_ZERO,
+    HEADER_CUT, MOST_DECLARED, NOT_ONE_OF_EACH, NO_PRIMARY, NO_SYNC_WORD, PADDING_NOT_ZERO,
+    PADDING_TOO_LONG, PROFILE_NOT_MET, RESERVED_NOT_ZERO, TRUNCATED, VERSION_NOT_ZERO,
 };
 use differential::case::{ACCEPTED, TOO_FEW_BITS, TOO_MANY_GROUPS, VALUE_TOO_LARGE};
 use differential::contents::Contents;
@@ -67,6 +67,7 @@ pub const GROUPS: [Group; 4] = [
         least: 100,
         outcomes: &[
             ("verdict", ACCEPTED),
+            ("verdict", HEADER_CUT),
             ("verdict", TRUNCATED),
             ("verdict", NO_SYNC_WORD),
             ("verdict", TOO_FEW_BITS),
@@ -235,7 +236,7 @@ fn damaged_carriers(
         let wrong = wrong::carriers(&contents, random).into_iter();
         for mut wrong in wrong.chain(wrong::sums_with_base(&contents, random)) {
             // More bytes would be those that are missing here.
-            if wrong.refusal.number != TRUNCATED {
+            if ![HEADER_CUT, TRUNCATED].contains(&wrong.refusal.number) {
                 lengthen(&mut wrong.carrier, random);
             }
             examiner.check_verdicts_with_rule(&wrong.carrier, &Err(wrong.refusal), tally)?;

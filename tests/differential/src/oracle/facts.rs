@@ -1,9 +1,9 @@
 //! The Rust side of the calls on a carrier: the original's answers, told in the library's figures.
 
 use crate::carrier::{
-    noise, summary, Ask, Found, Reading, Refusal, Reply, Spans, BLANK_ROW, MOST_RECORDS,
-    NO_PRIMARY, NO_SUCH_PLACE, NO_SYNC_WORD, PADDING_NOT_ZERO, PADDING_TOO_LONG, RESERVED_NOT_ZERO,
-    ROW, SCRATCH_TOO_SHORT, TABLE_TOO_SHORT, TRUNCATED, VERSION_NOT_ZERO,
+    noise, summary, Ask, Found, Reading, Refusal, Reply, Spans, BLANK_ROW, HEADER, HEADER_CUT,
+    MOST_RECORDS, NO_PRIMARY, NO_SUCH_PLACE, NO_SYNC_WORD, PADDING_NOT_ZERO, PADDING_TOO_LONG,
+    RESERVED_NOT_ZERO, ROW, SCRATCH_TOO_SHORT, TABLE_TOO_SHORT, TRUNCATED, VERSION_NOT_ZERO,
 };
 use crate::case::{TOO_FEW_BITS, TOO_MANY_GROUPS, VALUE_TOO_LARGE};
 use crate::contents::{Contents, Payload, Settings};
@@ -38,7 +38,8 @@ pub struct Facts<'a> {
 impl<'a> Facts<'a> {
     #[must_use]
     pub fn new(bytes: &'a [u8]) -> Self {
-        let traced = openjoc_emdf::parse_emdf_sync_with_bit_trace(bytes).map_err(refusal);
+        let traced = openjoc_emdf::parse_emdf_sync_with_bit_trace(bytes)
+            .map_err(|error| refusal(error, bytes));
         let verdicts = match &traced {
             Ok(traced) => Verdicts::new(&traced.parsed.container),
             Err(refusal) => Verdicts::refused(refusal.reply()),
@@ -155,7 +156,7 @@ impl<'a> Facts<'a> {
                 let words = summary(parsed.bytes_consumed, &contents(parsed.container));
                 Reply::accepted(&words)
             }
-            Err(error) => refusal(error).reply(),
+            Err(error) => refusal(error, self.bytes).reply(),
         }
     }
 
@@ -197,7 +198,7 @@ fn lent_records(table: usize) -> usize {
 pub fn reading(bytes: &[u8]) -> Reading {
     openjoc_emdf::parse_emdf_sync_with_bit_trace(bytes)
         .map(found)
-        .map_err(refusal)
+        .map_err(|error| refusal(error, bytes))
 }
 
 fn classification(bytes: &[u8]) -> (Class, Reply) {
@@ -214,7 +215,9 @@ fn classification(bytes: &[u8]) -> (Class, Reply) {
             let words = [container_bytes, carrier_bytes].map(|bytes| bytes as u64);
             (Class::TrailingData, Reply::accepted(&words))
         }
-        CarrierClassification::Malformed(error) => (Class::Malformed, refusal(error).reply()),
+        CarrierClassification::Malformed(error) => {
+            (Class::Malformed, refusal(error, bytes).reply())
+        }
     };
     (class, after_class(class, &reply))
 }
@@ -276,9 +279,15 @@ fn spans(trace: &EmdfPayloadBitTrace) -> Spans {
     }
 }
 
-fn refusal(error: EmdfError) -> Refusal {
+/// The original has one error for a header and for a container that is cut, and the figures of the
+/// two can be the same: the bytes tell which it is.
+fn refusal(error: EmdfError, bytes: &[u8]) -> Refusal {
     let two = |first: usize, second: usize| [first as u64, second as u64];
     let (number, figures) = match error {
+        EmdfError::TruncatedContainer {
+            declared,
+            available,
+        } if bytes.len() < HEADER => (HEADER_CUT, two(declared, available)),
         EmdfError::TruncatedContainer {
             declared,
             available,
