@@ -18,9 +18,10 @@ use Rattle.emdf_format.specs.Contents.{protectionBits}
 use Rattle.emdf_format.proofs.Standing.{length-then}
 use Rattle.emdf_format.proofs.Payloads.{length-octets}
 use Rattle.emdf_format.proofs.Variable.{before-fuel}
-use Rattle.emdf_writer.specs.Writing.{bitRun, numberPut, bitsCopied}
+use Rattle.emdf_writer.specs.Writing.{bitRun, numberPut, bitByBit}
 use Rattle.emdf_writer.proofs.Stored.{sets-append, number-split}
 use Rattle.emdf_writer.proofs.Run.{length-run}
+use Rattle.emdf_writer.proofs.Plain.{octets-put}
 use Rattle.emdf_writer.proofs.Fitting.{number-in, run-in}
 use Rattle.emdf_field_writer.specs.Fields.{Room, Put, group, variableGroups, syncBits, headerBits}
 
@@ -126,14 +127,16 @@ module _ (w v p : ℕ) (e : p ≡ 2 ^ w) where
 -- ---- bits of a slice, and all its octets
 
 pub run-fits : (out : List ℕ) (at : ℕ) (s : List ℕ) (from n : ℕ) → Room out at (bitRun s from n) → from + n ≤ length s * 8 → length s < 2 ^ 61
-    → bitsCopied out at s from n ≡ sets (octetBits out) at (bitRun s from n)
-run-fits out at s from n r h l = sym (run-in out at s from n (fits s (from + n) h l) (fits out (at + n) (omega (arith, length-run s from n h, r .0)) (r .1)) .1)
+    → octetBits (bitByBit out at s from n) ≡ sets (octetBits out) at (bitRun s from n)
+run-fits out at s from n r h l =
+    let k : at + n ≤ length out * 8 = omega (arith, length-run s from n h, r .0) in
+    ap octetBits (sym (run-in out at s from n (fits s (from + n) h l) (fits out (at + n) k (r .1)) .1)) ∙ octets-put out at s from n k h
 
 run-all : (s : List ℕ) → bitRun s 0 (length s * 8) ≡ octetBits s
 unfolding bitRun
 run-all s = let e : length s * 8 ≡ length (octetBits s) = omega (arith, length-octets s) in rw e (take-length (octetBits s))
 
-pub octets-fit : (out : List ℕ) (at : ℕ) (s : List ℕ) → Room out at (octetBits s) → bitsCopied out at s 0 (length s * 8) ≡ sets (octetBits out) at (octetBits s)
+pub octets-fit : (out : List ℕ) (at : ℕ) (s : List ℕ) → Room out at (octetBits s) → octetBits (bitByBit out at s 0 (length s * 8)) ≡ sets (octetBits out) at (octetBits s)
 octets-fit out at s r = run-fits out at s 0 (length s * 8) (rw (run-all s) r) (omega arith) (omega (arith, length-octets s, r .0, r .1)) ∙ rw (run-all s)
 
 -- ---- the parts of a carrier

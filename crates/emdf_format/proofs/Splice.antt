@@ -227,7 +227,8 @@ octets-drop (suc n) (x ∷ xs) =
     let z : 8 * suc n ≡ length (numberBits 8 x) + 8 * n = omega (arith, length-number 8 x) in
     octets-drop n xs ∙ sym (ap (λ (k : ℕ). drop k (numberBits 8 x ++ octetBits xs)) z ∙ drop-append-add (numberBits 8 x) (octetBits xs) (8 * n))
 
-same-octets : (xs ys : List ℕ) → Bytes xs → Bytes ys → octetBits xs ≡ octetBits ys → xs ≡ ys
+-- bytes with the same bits are the same
+pub same-octets : (xs ys : List ℕ) → Bytes xs → Bytes ys → octetBits xs ≡ octetBits ys → xs ≡ ys
 same-octets xs ys f g h =
     let l : length xs ≡ length ys = omega (arith, length-octets xs, length-octets ys, ap length h) in
     sym (bytes-octets xs (λ k _. f k)) ∙ ap (λ (n : ℕ). bytesOf n (octetBits xs)) l ∙ ap (bytesOf (length ys)) h ∙ bytes-octets ys (λ k _. g k)

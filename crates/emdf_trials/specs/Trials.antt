@@ -1,6 +1,6 @@
 -- What the exported trials return and write. Assumes nothing.
 use mathlib.Core.List.{List}
-use mathlib.Core.Bool.{Bool}
+use mathlib.Core.Bool.{Bool, true, false}
 use Prim.Native.Nat.{ℕ, _/_, _%_}
 use lib.ListN.{take, replicate}
 use lib.Dec.{leb, eqb}
@@ -114,3 +114,10 @@ recordsRead s bytes = inTable (tableRows bytes) (reading s)
 -- those records after the reading
 unfoldable pub readRows : List ℕ → ℕ → List PayloadRecord
 readRows s bytes = take (tableRows bytes) (tableAfter (recordsRead s bytes) (replicate 512 blankRecord))
+
+-- ---- bits put into a buffer
+
+-- whether they were put, as a number
+abbrev pub told : Bool → ℕ
+told true = 1
+told false = 0

@@ -4,16 +4,18 @@ ghost use mathlib.Core.Path.{_≡_};
 ghost use Prim.Native.Nat.{_*_, _≤_};
 ghost use lib.ListN.{length, take};
 ghost use lib.Seq.{sets};
+ghost use Rattle.emdf_format.specs.Syntax.{octetBits};
 ghost use Rattle.emdf_format.specs.Reading.{reading};
 ghost use Rattle.emdf_format.specs.Calls.{foundAt, chooseBody};
 ghost use Rattle.emdf_format.specs.Profile.{verdict};
 ghost use Rattle.emdf_format.specs.declared.JocValidationProfile.the-variants.{EtsiStrict};
+ghost use Rattle.emdf_writer.specs.Writing.{numberFits, runFits, numberPut, bitByBit};
 ghost use Rattle.openjoc_emdf.specs.Answers.{parseAnswer};
 ghost use Rattle.emdf_answers.specs.Bits.{BitReplies, bitsReply, bitReply, windowReply, alignReply};
 ghost use Rattle.emdf_answers.specs.Replies.{Replies};
 ghost use Rattle.emdf_answers.specs.Carriers.{readReply, rowsBytes};
 ghost use Rattle.emdf_answers.specs.Verdict.{verdictReply};
-ghost use Rattle.emdf_trials.specs.Trials.{bitsAnswerOf, bitAnswerOf, windowAnswerOf, alignAnswerOf, readerReply, parseReply, blankRecord, tableRows, readRows, recordsRead};
+ghost use Rattle.emdf_trials.specs.Trials.{bitsAnswerOf, bitAnswerOf, windowAnswerOf, alignAnswerOf, readerReply, parseReply, blankRecord, tableRows, readRows, recordsRead, told};
 use emdf_answers::BitReply;
 use emdf_format::EmdfPayloadBitTrace;
 use emdf_format::EmdfPayloadConfig;
@@ -245,4 +247,35 @@ pub extern "C" fn trial_verdict(bytes: &[u8], answer: &mut [u8; 32]) -> u32
     let values = emdf_answers::verdict_words(judged);
     emdf_rows::put_words(answer, 0, &values);
     emdf_answers::verdict_number(judged)
+}
+
+// copy_bits: 1 where the run was put, else 0.
+#[no_mangle]
+pub extern "C" fn trial_copy(
+    out: &mut [u8],
+    at: usize,
+    bytes: &[u8],
+    from: usize,
+    bits: usize,
+) -> u32
+    ensures { λ r. ⌜ (r ≡ told (runFits (now (out .entry)) at (now (bytes .entry)) from bits)) × (now (out .exit) ≡ bitByBit (now (out .entry)) at (now (bytes .entry)) from bits) ⌝ }
+{
+    tell(emdf_writer::copy_bits(out, at, bytes, from, bits))
+}
+
+// put_number: 1 where the number was put, else 0.
+#[no_mangle]
+pub extern "C" fn trial_put(out: &mut [u8], at: usize, width: usize, value: u64) -> u32
+    ensures { λ r. ⌜ (r ≡ told (numberFits (now (out .entry)) at width)) × (octetBits (now (out .exit)) ≡ numberPut (now (out .entry)) at width value) ⌝ }
+{
+    tell(emdf_writer::put_number(out, at, width, value))
+}
+
+fn tell(fits: bool) -> u32
+    ensures { λ r. ⌜ r ≡ told fits ⌝ }
+{
+    if fits {
+        return 1;
+    }
+    0
 }

@@ -14,7 +14,7 @@ use Rattle.openjoc_bitio.specs.Bits.{numberBits}
 use Rattle.openjoc_bitio.specs.Cursor.{bitLength}
 use Rattle.emdf_format.specs.Syntax.{octetBits}
 use Rattle.emdf_format.specs.Contents.{_&_}
-use Rattle.emdf_writer.specs.Writing.{bitRun, numberFits, runFits, numberPut, bitsCopied}
+use Rattle.emdf_writer.specs.Writing.{numberFits, runFits, numberPut, bitsPut, bitByBit}
 
 -- the test without the sum
 pub room-test : (limit at n : ℕ) → at ≤ limit → leb n (limit - at) ≡ leb (at + n) limit
@@ -57,18 +57,19 @@ number-in out at w v h e = simp (le-leb w 64 h, e) (refl, refl)
 
 -- ---- a run of bits
 
+-- what is answered, and the bytes that are left
 abbrev Run : List ℕ → ℕ → List ℕ → ℕ → ℕ → Bool → List ℕ → Type 0
-Run out at s p n r bits = (r ≡ runFits out at s p n) × (bits ≡ bitsCopied out at s p n)
+Run out at s p n r exit = (r ≡ runFits out at s p n) × (exit ≡ bitByBit out at s p n)
 
 module _ (out : List ℕ) (at : ℕ) (s : List ℕ) (p n : ℕ) where
-  pub run-away : leb (p + n) (bitLength s) ≡ false → Run out at s p n false (octetBits out)
-  unfolding bitsCopied runFits _&_
+  pub run-away : leb (p + n) (bitLength s) ≡ false → Run out at s p n false out
+  unfolding bitByBit runFits _&_
   run-away e = simp e (refl, refl)
 
-  pub run-out : leb (p + n) (bitLength s) ≡ true → leb (at + n) (bitLength out) ≡ false → Run out at s p n false (octetBits out)
-  unfolding bitsCopied runFits _&_
+  pub run-out : leb (p + n) (bitLength s) ≡ true → leb (at + n) (bitLength out) ≡ false → Run out at s p n false out
+  unfolding bitByBit runFits _&_
   run-out h e = simp (h, e) (refl, refl)
 
-  pub run-in : leb (p + n) (bitLength s) ≡ true → leb (at + n) (bitLength out) ≡ true → Run out at s p n true (sets (octetBits out) at (bitRun s p n))
-  unfolding bitsCopied runFits _&_
+  pub run-in : leb (p + n) (bitLength s) ≡ true → leb (at + n) (bitLength out) ≡ true → Run out at s p n true (bitsPut out at s p n)
+  unfolding bitByBit runFits _&_
   run-in h e = simp (h, e) (refl, refl)

@@ -1,3 +1,4 @@
 pub mod Stored
 pub mod Run
 pub mod Fitting
+pub mod Plain

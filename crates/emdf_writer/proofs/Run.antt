@@ -40,14 +40,22 @@ getD-octets (x ∷ s) p h = go (decLt p 8) (λ l. getD-octets s (p - 8) l)
         let j : p % 8 ≡ (p - 8) % 8 = omega arith in
         ap (λ (k : ℕ). getD (numberBits 8 x ++ octetBits s) k 0) d ∙ getD-append-add (numberBits 8 x) (octetBits s) (p - 8) 0 ∙ f (omega arith) ∙ rw (i, j)
 
+run-nil : (s : List ℕ) (p : ℕ) → bitRun s p 0 ≡ []
+unfolding bitRun
+run-nil s p = refl
+
+-- its first bit, and the others
+pub run-first : (s : List ℕ) (p n : ℕ) → p < length s * 8 → bitRun s p (suc n) ≡ bitAt s p ∷ bitRun s (suc p) n
+unfolding bitRun
+run-first s p n h = let k : p < length (octetBits s) = omega (arith, length-octets s) in rw (drop-cons (octetBits s) p 0 k, getD-octets s p h)
+
 pub run-value : (s : List ℕ) (p n : ℕ) → p + n ≤ length s * 8 → bitRun s p n ≡ numberBits n (bitsValue s p n)
-unfolding bitRun numberBits
-run-value s p zero h = refl
+unfolding numberBits
+run-value s p zero h = run-nil s p
 run-value s p (suc n) h =
-    let k : p < length (octetBits s) = omega (arith, length-octets s) in
     let b : (bitAt s p * 2 ^ n + bitsValue s (suc p) n) / 2 ^ n % 2 ≡ bitAt s p = rw (high (bitAt s p) n (value-range s (suc p) n)) (omega (arith, bit-range s p)) in
     let t : numberBits n (bitAt s p * 2 ^ n + bitsValue s (suc p) n) ≡ numberBits n (bitsValue s (suc p) n) = rw add-zero at (number-high n 0 (bitAt s p) (bitsValue s (suc p) n)) in
-    rw (drop-cons (octetBits s) p 0 k, getD-octets s p (omega arith), value-first, b, t) (ap (λ (r : List ℕ). bitAt s p ∷ r) (run-value s (suc p) n (omega arith)))
+    run-first s p n (omega arith) ∙ rw (value-first, b, t) (ap (λ (r : List ℕ). bitAt s p ∷ r) (run-value s (suc p) n (omega arith)))
 
 pub length-run : (s : List ℕ) (p n : ℕ) → p + n ≤ length s * 8 → length (bitRun s p n) ≡ n
 length-run s p n h = rw (run-value s p n h) (length-number n _)

@@ -11,6 +11,7 @@ use lib.Seq.{sets, set-append-left}
 use Rattle.openjoc_bitio.specs.Bits.{numberBits}
 use Rattle.openjoc_bitio.proofs.Bits.{length-number, number-high, number-low}
 use Rattle.emdf_format.specs.Syntax.{_⨟_, octetBits}
+use Rattle.emdf_writer.specs.Writing.{byteWith}
 
 -- ---- bits set in a list
 
@@ -81,10 +82,6 @@ byte-parts a t e x h = ap (λ (n : ℕ). numberBits n x) (sym h) ∙ rw (number-
 -- a number's low bits, below others
 low-bits : (t x v : ℕ) → numberBits t (x * 2 ^ t + v) ≡ numberBits t v
 low-bits t x v = rw add-zero at (number-high t 0 x v)
-
--- the byte b with the t bits of v above its low e bits
-abbrev pub byteWith : ℕ → ℕ → ℕ → ℕ → ℕ
-byteWith b t e v = (b / 2 ^ (t + e) * 2 ^ t + v) * 2 ^ e + b % 2 ^ e
 
 with-bits : (b a t e v : ℕ) → a + t + e ≡ 8 → v < 2 ^ t → numberBits 8 (byteWith b t e v) ≡ sets (numberBits 8 b) a (numberBits t v)
 with-bits b a t e v h k =

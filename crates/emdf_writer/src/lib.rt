@@ -7,7 +7,7 @@ ghost use lib.Dec.{leb};
 ghost use Rattle.openjoc_bitio.specs.Bits.{bitsValue, numberBits};
 ghost use Rattle.openjoc_bitio.specs.Cursor.{bitLength};
 ghost use Rattle.emdf_format.specs.Syntax.{octetBits};
-ghost use Rattle.emdf_writer.specs.Writing.{bitRun, numberFits, runFits, numberPut, bitsCopied};
+ghost use Rattle.emdf_writer.specs.Writing.{bitRun, numberFits, runFits, numberPut, byteWith, bitByBit};
 use openjoc_bitio::BitCursor;
 
 // The width low bits of v, from bit at on, the most significant first. Answers whether they were put: nothing is where they don't
@@ -25,10 +25,10 @@ pub fn put_number(out: &mut [u8], at: usize, width: usize, v: u64) -> bool
     true
 }
 
-// n bits of s from bit from on, to out from bit at on. Answers whether they were put: nothing is where they are not there, or don't
-// fit.
+// n bits of s from bit from on, to out from bit at on: every byte is as if they were taken one by one. Answers whether they were put:
+// nothing is where they are not there, or don't fit.
 pub fn copy_bits(out: &mut [u8], at: usize, s: &[u8], from: usize, n: usize) -> bool
-    ensures { λ r. ⌜ (r ≡ runFits (now (out .entry)) at (now (s .entry)) from n) × (octetBits (now (out .exit)) ≡ bitsCopied (now (out .entry)) at (now (s .entry)) from n) ⌝ }
+    ensures { λ r. ⌜ (r ≡ runFits (now (out .entry)) at (now (s .entry)) from n) × (now (out .exit) ≡ bitByBit (now (out .entry)) at (now (s .entry)) from n) ⌝ }
 {
     if !has_bits(s, from, n) {
         return false;
@@ -54,7 +54,7 @@ fn has_bits(s: &[u8], at: usize, n: usize) -> bool
 // The byte b with the t bits of v in place of those above its low ones.
 fn byte_with(b: u8, t: usize, below: usize, v: u64) -> u8
     requires { ⌜ (t + below ≤ 8) × (v < 2 ^ t) ⌝ }
-    ensures { λ r. ⌜ r ≡ (b / 2 ^ (t + below) * 2 ^ t + v) * 2 ^ below + b % 2 ^ below ⌝ }
+    ensures { λ r. ⌜ r ≡ byteWith b t below v ⌝ }
 {
     let x = b as u64;
     let m = openjoc_bitio::pow2(t);
@@ -123,10 +123,10 @@ fn copy_bytes(out: &mut [u8], i: usize, s: &[u8], j: usize, n: usize)
     requires { ⌜ (i + n ≤ length (now out)) × (j + n ≤ length (now s)) ⌝ }
     ensures { λ _. ⌜ octetBits (now (out .exit)) ≡ sets (octetBits (now (out .entry))) (i * 8) (bitRun (now (s .entry)) (j * 8) (n * 8)) ⌝ }
 {
-    let mut k: usize = 0;
-    while k < n {
-        out[i + k] = s[j + k];
-        k += 1;
+    let mut moved: usize = 0;
+    while moved < n {
+        out[i + moved] = s[j + moved];
+        moved += 1;
     }
 }
 

@@ -28,6 +28,8 @@ pub mod plain;
 pub mod profile;
 #[path = "cases/random.rs"]
 pub mod random;
+#[path = "model/run.rs"]
+pub mod run;
 #[path = "cases/scripts.rs"]
 pub mod scripts;
 #[path = "cases/shapes.rs"]

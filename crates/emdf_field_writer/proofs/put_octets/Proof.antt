@@ -1,7 +1,8 @@
 use borrow.Author.Needs.{needs}
-use mathlib.Core.Path.{_∙_}
+use mathlib.Core.Path.{ap, _∙_}
 use native.Mathlib.Omega.{arith}
 use denote.Ref.{now}
+use Rattle.emdf_format.specs.Syntax.{octetBits}
 use Rattle.emdf_format.proofs.Payloads.{length-octets}
 use Rattle.emdf_field_writer.proofs.Putting.{octets-fit}
 use Rattle.emdf_field_writer.proofs.put_octets.Statement.{statement}
@@ -22,7 +23,7 @@ same-length c = search needs
 returns : tie.Need-returns
 returns c =
     let e = c .before .before .before .before .before .before .before in
-    (omega (arith, length-octets (now (e .args .s))), c .before .before .before .copy-bits .ensures .1 ∙ octets-fit _ _ _ (e .pre))
+    (omega (arith, length-octets (now (e .args .s))), ap octetBits (c .before .before .before .copy-bits .ensures .1) ∙ octets-fit _ _ _ (e .pre))
 
 pub put-octets-spec : {M : Type 1} → statement M
 put-octets-spec = tie.close (tie.spec mul-n copy-bits-requires add-t5 same-length returns)

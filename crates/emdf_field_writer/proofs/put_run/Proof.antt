@@ -1,8 +1,9 @@
 use borrow.Author.Needs.{needs}
-use mathlib.Core.Path.{_≡_, _∙_}
+use mathlib.Core.Path.{_≡_, ap, _∙_}
 use native.Mathlib.Omega.{arith}
 use denote.Ref.{now}
 use lib.ListN.{length}
+use Rattle.emdf_format.specs.Syntax.{octetBits}
 use Rattle.emdf_writer.specs.Writing.{bitRun}
 use Rattle.emdf_writer.proofs.Run.{length-run}
 use Rattle.emdf_field_writer.proofs.Putting.{run-fits}
@@ -25,7 +26,7 @@ same-length c = search needs
 returns : tie.Need-returns
 returns c =
     let e = c .before .before .before .before .before .before .before in
-    (omega (arith, count c), c .before .before .before .copy-bits .ensures .1 ∙ run-fits _ _ _ _ _ (e .pre .0) (e .pre .1) (e .pre .2))
+    (omega (arith, count c), ap octetBits (c .before .before .before .copy-bits .ensures .1) ∙ run-fits _ _ _ _ _ (e .pre .0) (e .pre .1) (e .pre .2))
 
 pub put-run-spec : {M : Type 1} → statement M
 put-run-spec = tie.close (tie.spec copy-bits-requires add-t9 same-length returns)

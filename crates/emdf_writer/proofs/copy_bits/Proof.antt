@@ -7,6 +7,7 @@ use lib.Dec.{leb}
 use borrow.Author.Tests.{not-true, not-false}
 use Rattle.openjoc_bitio.specs.Cursor.{bitLength}
 use Rattle.emdf_writer.proofs.Fitting.{inside, run-away, run-out, run-in}
+use Rattle.emdf_writer.proofs.Plain.{as-bit-by-bit}
 use Rattle.emdf_writer.proofs.copy_bits.Statement.{statement}
 use Rattle.emdf_writer.proofs.copy_bits.Tie as tie
 
@@ -43,8 +44,12 @@ same-length-2 c = search needs
 returns-3 : tie.Need-returns-3
 returns-3 c =
     let d = c .before .before .before .before in
-    let h = run-in _ _ _ _ _ (there (d .before .before .before)) (room d) in
-    (h .0, c .before .before .copy-run .ensures ∙ h .1)
+    let e = d .before .before .before in
+    let t = there e in
+    let h = run-in _ _ _ _ _ t (room d) in
+    let i = inside _ _ _ (room d) in
+    let j = inside _ _ _ t in
+    (h .0, as-bit-by-bit _ _ _ _ _ _ (λ k. e .before .before .before .slice-known .given k .fits) (λ k. c .slice-known2 .given k .fits) (i .within) (j .within) (c .before .before .copy-run .ensures) ∙ h .1)
 
 pub copy-bits-spec : {M : Type 1} → statement M
 copy-bits-spec =

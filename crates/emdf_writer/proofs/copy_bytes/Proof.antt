@@ -32,8 +32,8 @@ add-out-2 c = omega arith
 slice-write-out : tie.Need-slice-write-out Inv-loop μ-loop
 slice-write-out c = omega arith
 
-add-k : tie.Need-add-k Inv-loop μ-loop
-add-k c = omega arith
+add-moved : tie.Need-add-moved Inv-loop μ-loop
+add-moved c = omega arith
 
 loop-less : tie.Need-loop-less Inv-loop μ-loop
 loop-less c = omega arith
@@ -43,9 +43,9 @@ loop-again c =
     let a = c .before .before .before .args in
     let o = c .before .before .loop in
     let s = a .s .now in
-    let e : 8 * (a .j + o .k) ≡ a .j * 8 + o .k * 8 = omega arith in
-    let b : getD s (a .j + o .k) 0 ≡ bitsValue s (a .j * 8 + o .k * 8) 8 = sym (byte-value s (a .j + o .k) (c .shared-slice-known .given (a .j + o .k) .fits)) ∙ ap (λ (p : ℕ). bitsValue s p 8) e in
-    (omega arith, length-set (o .out) (a .i + o .k) _ ∙ o .inv .1, octets-more (o .out) s (a .i) (a .j * 8) (a .n) (o .k) _ (omega arith) (omega arith) (omega arith) b ∙ o .inv .2)
+    let e : 8 * (a .j + o .moved) ≡ a .j * 8 + o .moved * 8 = omega arith in
+    let b : getD s (a .j + o .moved) 0 ≡ bitsValue s (a .j * 8 + o .moved * 8) 8 = sym (byte-value s (a .j + o .moved) (c .shared-slice-known .given (a .j + o .moved) .fits)) ∙ ap (λ (p : ℕ). bitsValue s p 8) e in
+    (omega arith, length-set (o .out) (a .i + o .moved) _ ∙ o .inv .1, octets-more (o .out) s (a .i) (a .j * 8) (a .n) (o .moved) _ (omega arith) (omega arith) (omega arith) b ∙ o .inv .2)
 
 same-length : tie.Need-same-length Inv-loop μ-loop
 same-length c = c .before .loop .inv .1
@@ -64,7 +64,7 @@ copy-bytes-spec =
     shared-slice-read-out
     add-out-2
     slice-write-out
-    add-k
+    add-moved
     loop-less
     loop-again
     same-length

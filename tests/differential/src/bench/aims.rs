@@ -30,7 +30,18 @@ pub struct Edited {
     pub ratio: f64,
 }
 
-pub fn show(compared: &[Compared], edited: &[Edited]) {
+/// An edit's time, as a part of a reading and a copy.
+pub struct Copies {
+    pub named: String,
+    pub ratio: f64,
+    pub octets: usize,
+    pub straight: bool,
+}
+
+/// From so many octets on there is an aim for what copying them takes.
+const MANY_OCTETS: usize = 4_096;
+
+pub fn show(compared: &[Compared], edited: &[Edited], copies: &[Copies]) {
     println!("\naims, and what this run reaches");
     let times = compared.iter().map(|one| (one.ratio.time, &one.named));
     show_worst("never slower than the Rust, by time", times);
@@ -41,6 +52,13 @@ pub fn show(compared: &[Compared], edited: &[Edited]) {
     compared.iter().for_each(show_times_faster);
     let edits = edited.iter().map(|one| (one.ratio, &one.named));
     show_worst("an edit within 2r+6c, by time", edits);
+    for (straight, times) in [(true, 1.5), (false, 4.0)] {
+        let phases = if straight { "equal" } else { "other" };
+        let aim = format!("{phases} phases, many octets, within {times}(r+c)");
+        let many = copies.iter().filter(|one| one.octets >= MANY_OCTETS);
+        let such = many.filter(|one| one.straight == straight);
+        show_worst(&aim, such.map(|one| (one.ratio / times, &one.named)));
+    }
 }
 
 /// The largest of these ratios, none of which is to be above 1.

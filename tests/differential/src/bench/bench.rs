@@ -6,10 +6,12 @@ mod clock;
 mod counts;
 #[path = "../compare/exported.rs"]
 mod exported;
+mod runs;
 mod subjects;
 
-use aims::{Compared, Edited, Measure};
+use aims::{Compared, Copies, Edited, Measure};
 use calls::Call;
+use runs::Copied;
 use std::env;
 use std::process::ExitCode;
 use subjects::{Input, Subject};
@@ -23,9 +25,10 @@ type Costs = Vec<(&'static str, Measure)>;
 fn main() -> ExitCode {
     let subjects = subjects::subjects();
     let edges = subjects::edges();
-    let groups = groups(&subjects, &edges);
+    let copied = runs::all();
+    let groups = groups(&subjects, &edges, &copied);
     match env::args().nth(1).as_deref() {
-        None => measure(&subjects, &edges, groups),
+        None => measure(&subjects, &edges, &copied, groups),
         Some(counts::ARGUMENT) => counts::make_each(groups.into_iter().flatten()),
         Some(argument) => {
             eprintln!("{argument}: unknown argument");
@@ -36,16 +39,19 @@ fn main() -> ExitCode {
 }
 
 /// All groups, in the order of the tables.
-fn groups<'a>(subjects: &'a [Subject], edges: &'a [Input]) -> Vec<Group<'a>> {
+fn groups<'a>(subjects: &'a [Subject], edges: &'a [Input], copied: &'a [Copied]) -> Vec<Group<'a>> {
     let subjects_read = subjects.iter().map(calls::readings_and_verdict);
     let edges_read = edges.iter().map(calls::readings);
     let edited = subjects.iter().map(calls::edits);
-    subjects_read.chain(edges_read).chain(edited).collect()
+    let copied = copied.iter().map(Copied::calls);
+    let read = subjects_read.chain(edges_read);
+    read.chain(edited).chain(copied).collect()
 }
 
-fn measure(subjects: &[Subject], edges: &[Input], groups: Vec<Group>) {
+fn measure(subjects: &[Subject], edges: &[Input], copied: &[Copied], groups: Vec<Group>) {
     subjects.iter().for_each(calls::check_subject);
     edges.iter().for_each(calls::check_readings);
+    copied.iter().for_each(Copied::check);
     let rounds = clock::ROUNDS;
     println!(
         "nanoseconds per call, medians of {rounds} rounds in turns, then instructions per call"
@@ -58,7 +64,8 @@ fn measure(subjects: &[Subject], edges: &[Input], groups: Vec<Group>) {
     let mut costs = costs(groups, counts);
     let compared = show_readings(subjects, edges, &mut costs);
     let edited = show_edits(subjects, &mut costs);
-    aims::show(&compared, &edited);
+    let copies = show_copies(copied, &mut costs);
+    aims::show(&compared, &edited, &copies);
 }
 
 /// Each group's calls and what they cost, measured when it is their turn in a table.
@@ -133,6 +140,35 @@ fn show_edits(subjects: &[Subject], costs: &mut impl Iterator<Item = Costs>) -> 
             let named = format!("{call}, {name}");
             all.extend(ratio.map(|ratio| Edited { named, ratio }));
         }
+    }
+    all
+}
+
+/// A line for each edit: a copy (c), a reading (r), the edit and its plain form, by time and by instructions.
+fn show_copies(copied: &[Copied], costs: &mut impl Iterator<Item = Costs>) -> Vec<Copies> {
+    println!(
+        "\n{:<40} {:>9} {:>9} {:>9} {:>11} {:>8} {:>9} {:>9} {:>9} {:>11}",
+        "body", "copy", "read", "edit", "plain", "to r+c", "copy", "read", "edit", "plain"
+    );
+    let mut all = Vec::new();
+    for (copied, costs) in copied.iter().zip(costs) {
+        let name = &copied.name;
+        let times: Vec<f64> = costs.iter().map(|(_, cost)| cost.time).collect();
+        let counts: Vec<String> = costs.iter().map(|(_, cost)| shown(cost.count, 0)).collect();
+        let [copy, read, edit, plain] = times[..] else {
+            unreachable!("four calls for each edit")
+        };
+        let ratio = edit / (copy + read);
+        println!(
+            "{name:<40} {copy:>9.1} {read:>9.1} {edit:>9.1} {plain:>11.1} {ratio:>8.4} {:>9} {:>9} {:>9} {:>11}",
+            counts[0], counts[1], counts[2], counts[3]
+        );
+        all.push(Copies {
+            named: name.clone(),
+            ratio,
+            octets: copied.octets,
+            straight: copied.is_straight(),
+        });
     }
     all
 }

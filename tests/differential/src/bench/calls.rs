@@ -31,7 +31,7 @@ pub struct Call<'a> {
 }
 
 impl<'a> Call<'a> {
-    fn new<T>(name: &'static str, mut answer: impl FnMut() -> T + 'a) -> Self {
+    pub fn new<T>(name: &'static str, mut answer: impl FnMut() -> T + 'a) -> Self {
         let make = Box::new(move || {
             black_box(answer());
         });
@@ -60,17 +60,22 @@ pub fn readings_and_verdict(subject: &Subject) -> Vec<Call<'_>> {
     calls
 }
 
-/// A copy of the carrier, its reading, and each edit that it has a place for.
-pub fn edits(subject: &Subject) -> Vec<Call<'_>> {
-    let carrier = &subject.input.bytes;
+/// A copy of a carrier, and its reading.
+pub fn copy_and_read(carrier: &[u8]) -> Vec<Call<'_>> {
     let mut table = vec![0; TABLE];
     let mut copied = vec![0; carrier.len()];
-    let mut calls = vec![
+    vec![
         Call::new("copy", move || {
             black_box(&mut copied[..]).copy_from_slice(black_box(carrier));
         }),
         Call::new("read", move || library_read(carrier, &mut table)),
-    ];
+    ]
+}
+
+/// These two, and each edit that the carrier has a place for.
+pub fn edits(subject: &Subject) -> Vec<Call<'_>> {
+    let carrier = &subject.input.bytes;
+    let mut calls = copy_and_read(carrier);
     for step in steps(carrier) {
         let mut destination = vec![0; 2 * carrier.len() + 1_000];
         calls.push(Call::new(step.name(), move || {
@@ -146,7 +151,7 @@ fn steps(carrier: &[u8]) -> Vec<Step> {
     all
 }
 
-fn library_read(bytes: &[u8], table: &mut [u8]) -> u32 {
+pub fn library_read(bytes: &[u8], table: &mut [u8]) -> u32 {
     let bytes = black_box(bytes);
     let mut answer = [0; 8 * SUMMARY_WORDS];
     // SAFETY: both slices are alive, and the answer has the bytes it wants.
@@ -201,7 +206,7 @@ fn rust_verdict(carrier: &[u8]) {
     black_box(&validated);
 }
 
-fn library_edit(carrier: &[u8], step: &Step, destination: &mut [u8]) -> u32 {
+pub fn library_edit(carrier: &[u8], step: &Step, destination: &mut [u8]) -> u32 {
     let carrier = black_box(carrier);
     let memory = (destination.as_mut_ptr(), destination.len());
     let mut answer = [0; 8 * EDIT_WORDS];

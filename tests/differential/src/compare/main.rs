@@ -19,6 +19,7 @@ mod library;
 mod model;
 mod reached;
 mod report;
+mod runs;
 mod self_check;
 mod shrink;
 mod sparse;
@@ -31,9 +32,10 @@ use report::{Group, Tally};
 use std::process::ExitCode;
 
 /// Each part's groups, run in this order.
-const PARTS: [&[Group]; 8] = [
+const PARTS: [&[Group]; 9] = [
     &bits::GROUPS,
     &fields::GROUPS,
+    &runs::GROUPS,
     &carriers::GROUPS,
     &bodies::GROUPS,
     &verdicts::GROUPS,
@@ -43,7 +45,7 @@ const PARTS: [&[Group]; 8] = [
 ];
 
 /// The parts whose groups have to catch the mistakes of the self-check.
-const PARTS_OF_EDITS: std::ops::Range<usize> = 5..7;
+const PARTS_OF_EDITS: std::ops::Range<usize> = 6..8;
 
 fn main() -> ExitCode {
     let options = match Options::parse(std::env::args().skip(1)) {

@@ -30,6 +30,16 @@ extern "C" {
         chosen_length: usize,
     ) -> usize;
     fn trial_verdict(bytes: *const u8, length: usize, answer: *mut u8) -> u32;
+    fn trial_copy(
+        out: *mut u8,
+        out_length: usize,
+        at: usize,
+        source: *const u8,
+        source_length: usize,
+        from: usize,
+        bits: usize,
+    ) -> u32;
+    fn trial_put(out: *mut u8, out_length: usize, at: usize, width: usize, value: u64) -> u32;
 }
 
 /// A method of a `BitReader` that stands at the request's cursor.
@@ -94,4 +104,31 @@ pub unsafe fn choose_body(
 pub unsafe fn verdict(bytes: &[u8], answer: *mut u8) -> u32 {
     // SAFETY: the slice is alive, and the rest is the caller's promise.
     unsafe { trial_verdict(bytes.as_ptr(), bytes.len(), answer) }
+}
+
+/// `copy_bits`: 1 where the bits were put, else 0.
+///
+/// # Safety
+///
+/// The memory that is written to has its length.
+pub unsafe fn copy(
+    (out, room): (*mut u8, usize),
+    at: usize,
+    source: &[u8],
+    from: usize,
+    bits: usize,
+) -> u32 {
+    let (start, length) = (source.as_ptr(), source.len());
+    // SAFETY: the slice is alive, and the rest is the caller's promise.
+    unsafe { trial_copy(out, room, at, start, length, from, bits) }
+}
+
+/// `put_number`: 1 where the bits were put, else 0.
+///
+/// # Safety
+///
+/// The memory that is written to has its length.
+pub unsafe fn put((out, room): (*mut u8, usize), at: usize, width: usize, value: u64) -> u32 {
+    // SAFETY: the caller's promise.
+    unsafe { trial_put(out, room, at, width, value) }
 }
