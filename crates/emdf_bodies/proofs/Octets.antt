@@ -1,6 +1,6 @@
 -- Octets at any bit, put over a buffer's first. Assumes nothing.
-use mathlib.Core.Path.{_≡_, refl, sym, ap, _∙_}
-use mathlib.Core.List.{List, [], _++_}
+use mathlib.Core.Path.{_≡_, sym, ap, _∙_}
+use mathlib.Core.List.{List, _++_}
 use Prim.Native.Nat.{ℕ, zero, suc, _+_, _*_, _≤_}
 use native.Mathlib.Omega.{arith}
 use lib.ListN.{length, drop}
@@ -13,7 +13,7 @@ use Rattle.emdf_format.specs.Calls.{octetsAt}
 use Rattle.emdf_format.specs.Edits.{Bytes}
 use Rattle.emdf_format.proofs.Splice.{front-bytes}
 use Rattle.emdf_writer.specs.Writing.{bitRun}
-use Rattle.emdf_writer.proofs.Run.{run-add, run-value}
+use Rattle.emdf_writer.proofs.Run.{run-nil, run-add, run-value}
 use Rattle.emdf_fields.proofs.Octets.{length-octets-at}
 
 octets-bytes : (s : List ℕ) (p n : ℕ) → Bytes (octetsAt s p n)
@@ -22,14 +22,10 @@ octets-bytes s p zero k = lit< tt
 octets-bytes s p (suc n) zero = value-range s p 8
 octets-bytes s p (suc n) (suc k) = octets-bytes s (p + 8) n k
 
-no-run : (s : List ℕ) (p : ℕ) → bitRun s p 0 ≡ []
-unfolding bitRun
-no-run s p = refl
-
 -- their bits are a run of the slice's
 octets-run : (s : List ℕ) (p n : ℕ) → p + n * 8 ≤ length s * 8 → octetBits (octetsAt s p n) ≡ bitRun s p (n * 8)
 unfolding octetsAt octetBits _⨟_
-octets-run s p zero h = sym (no-run s p)
+octets-run s p zero h = sym (run-nil s p)
 octets-run s p (suc n) h =
     let e : suc n * 8 ≡ 8 + n * 8 = omega arith in
     ap (λ (l : List ℕ). numberBits 8 (bitsValue s p 8) ++ l) (octets-run s (p + 8) n (omega arith))

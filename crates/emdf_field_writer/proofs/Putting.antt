@@ -16,10 +16,11 @@ use Rattle.openjoc_bitio.proofs.Bits.{length-number, number-low}
 use Rattle.emdf_format.specs.Syntax.{_⨟_, groupsBefore, variableField, escape, extendedField, octetBits}
 use Rattle.emdf_format.specs.Contents.{protectionBits}
 use Rattle.emdf_format.proofs.Standing.{length-then}
+use Rattle.emdf_format.proofs.Bytes.{sets-append}
 use Rattle.emdf_format.proofs.Payloads.{length-octets}
 use Rattle.emdf_format.proofs.Variable.{before-fuel}
 use Rattle.emdf_writer.specs.Writing.{bitRun, numberPut, bitByBit}
-use Rattle.emdf_writer.proofs.Stored.{sets-append, number-split}
+use Rattle.emdf_writer.proofs.Stored.{number-split}
 use Rattle.emdf_writer.proofs.Run.{length-run}
 use Rattle.emdf_writer.proofs.Plain.{octets-put}
 use Rattle.emdf_writer.proofs.Fitting.{number-in, run-in}

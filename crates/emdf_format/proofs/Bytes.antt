@@ -1,12 +1,12 @@
 -- Bytes and bits: a carrier's bytes are its bits, packed. Assumes nothing.
 use mathlib.Core.Path.{_≡_, refl, sym, ap, _∙_}
 use mathlib.Core.Bool.{Bool, true, false}
-use mathlib.Core.List.{List, [], _∷_}
+use mathlib.Core.List.{List, [], _∷_, _++_}
 use Prim.Native.Nat.{ℕ, zero, suc, _+_, _-_, _*_, _/_, _%_, _^_, _≤_, _<_}
 use native.Mathlib.Omega.{arith}
 use native.Mathlib.Nat.{mod-lt, mod-eq-of-lt, div-one, div-lt-iff-lt-mul, add-zero, le-trans}
-use lib.ListN.{length, getD, take, drop, take-append-drop, length-take, length-drop}
-use lib.Seq.{take-at, drop-at, drop-cons, length-take-le, take-length}
+use lib.ListN.{length, getD, set, take, drop, take-append-drop, length-take, length-drop}
+use lib.Seq.{sets, take-at, drop-at, drop-cons, length-take-le, take-length}
 use lib.Pow.{pow-pos, high, pow-mono}
 use lib.Pow.{split as pow-split}
 use lib.Arith.{digits-lt}
@@ -31,6 +31,12 @@ unique nil nil = refl
 unique nil (cons l b h) = absurd (omega (arith, stands-to h))
 unique (cons l b h) nil = absurd (omega (arith, stands-to h))
 unique (cons {bs = xs} l b h) (cons {b = b′} {bs = ys} l′ c k) = rw (← b, ← c, unique h k)
+
+-- ---- what is stored in two parts
+
+pub sets-append : (l : List ℕ) (i : ℕ) (xs ys : List ℕ) → sets l i (xs ++ ys) ≡ sets (sets l i xs) (i + length xs) ys
+sets-append l i [] ys = rw add-zero
+sets-append l i (x ∷ xs) ys = let e : i + suc (length xs) ≡ suc i + length xs = omega arith in rw e (sets-append (set l i x) (suc i) xs ys)
 
 -- ---- a byte's bits
 

@@ -1,8 +1,8 @@
 -- The equality of carriers, of the exported calls. Assumes nothing.
-use mathlib.Core.Path.{_≡_, refl, sym, ap, _∙_}
+use mathlib.Core.Path.{_≡_, refl, ap, _∙_}
 use mathlib.Core.Bool.{Bool, true, false}
 use mathlib.Core.List.{List, [], _∷_}
-use Prim.Native.Nat.{ℕ, _+_, _^_, _<_, _≤_}
+use Prim.Native.Nat.{ℕ, _^_, _<_}
 use native.Mathlib.Omega.{arith}
 use lib.ListN.{length}
 use lib.Dec.{eqb, lit<}
@@ -15,14 +15,13 @@ use Rattle.emdf_format.specs.declared.EditError.{EditError}
 use Rattle.emdf_format.specs.declared.EditError.the-variants.{Emdf, TrailingData, NoSuchPlace, NotWritable, TooLong, DestinationTooShort}
 use Rattle.emdf_format.specs.declared.EditAnswer.{EditAnswer}
 use Rattle.emdf_format.specs.declared.EditAnswer.the-variants.{Written, Refused}
-use Rattle.emdf_format.specs.Contents.{Contents, declared}
+use Rattle.emdf_format.specs.Contents.{Contents}
 use Rattle.emdf_format.specs.Refusals.{editRefusal, figuresOf}
 use Rattle.emdf_format.specs.Reading.{Reading, accepted, refusal, reading, contentsOf}
-use Rattle.emdf_format.specs.Edits.{Edit, Stepped, changed, unchanged, carrierLength, step, stepAnswer, stepFrom, edited, Call, nextSource, done, leaves, answers}
+use Rattle.emdf_format.specs.Edits.{Edit, Stepped, changed, unchanged, carrierLength, stepAnswer, stepFrom, edited, Call, nextSource, done, leaves, answers}
 use Rattle.emdf_format.proofs.Lists.{changes, equality-of-carriers}
 use Rattle.emdf_answers.specs.Form.{words}
-use Rattle.emdf_answers.specs.Edits.{editedFigures, EditReplies}
-use Rattle.emdf_settings_bytes.specs.Settings.{numberAt}
+use Rattle.emdf_answers.specs.Edits.{editedFigures}
 use Rattle.emdf_settings_bytes.proofs.Settings.{number-read}
 use Rattle.emdf_host.specs.Sequences.{nextCarrier, Told, told, toldAll, HostRan, none, next, EqualityOfHostCalls}
 

@@ -1,8 +1,8 @@
 -- Laws of the rows. Assumes nothing.
-use mathlib.Core.Path.{_≡_, refl, sym, ap, _∙_}
+use mathlib.Core.Path.{_≡_, refl, sym, _∙_}
 use mathlib.Core.Bool.{Bool, true, false}
 use mathlib.Core.List.{List, [], _∷_, _++_}
-use Prim.Native.Nat.{ℕ, zero, suc, _+_, _*_, _<_, _≤_}
+use Prim.Native.Nat.{ℕ, _+_, _*_, _<_, _≤_}
 use native.Mathlib.Nat.{zero-add}
 use native.Mathlib.Omega.{arith}
 use lib.Dec.{eqb}
@@ -12,6 +12,7 @@ use Rattle.openjoc_bitio.specs.declared.BitCursor.{BitCursor}
 use Rattle.emdf_format.specs.Reader.{cursorAt}
 use Rattle.emdf_format.specs.Reading.{Found}
 use Rattle.emdf_format.specs.Calls.{recordsOf}
+use Rattle.emdf_format.proofs.Bytes.{sets-append}
 use Rattle.emdf_format.specs.declared.Optional.{Optional}
 use Rattle.emdf_format.specs.declared.Optional.the-variants.{Absent, Present}
 use Rattle.emdf_format.specs.declared.EmdfPayloadConfig.{EmdfPayloadConfig}
@@ -26,7 +27,7 @@ use Rattle.emdf_payloads.specs.declared.CompactPayload.{CompactPayload}
 use Rattle.emdf_answers.specs.Form.{bigEndian, words}
 use Rattle.emdf_answers.specs.Carriers.{optionalWords, configWords, traceWords, recordWords, rowsBytes}
 use Rattle.emdf_answers.proofs.Form.{length-words}
-use Rattle.emdf_rows.proofs.Stored.{sets-append, words-stored, words-then}
+use Rattle.emdf_rows.proofs.Stored.{words-stored, words-then}
 
 -- ---- a row
 
@@ -56,7 +57,7 @@ rows-stored : (l : List ℕ) (i : ℕ) (x : Found) (xs : List Found)
 unfolding rowsBytes recordsOf
 rows-stored l i x xs =
     let e : (i + 1) * 216 ≡ i * 216 + length (words (recordWords (x .record-of))) = omega (arith, length-record (x .record-of)) in
-    rw e (sets-append l (i * 216) (words (recordWords (x .record-of))) (rowsBytes (recordsOf xs)))
+    rw e (sym (sets-append l (i * 216) (words (recordWords (x .record-of))) (rowsBytes (recordsOf xs))))
 
 length-rows : (xs : List Found) → length (rowsBytes (recordsOf xs)) ≡ 216 * length xs
 unfolding rowsBytes recordsOf

@@ -2,14 +2,15 @@
 use mathlib.Core.Path.{_≡_, refl, sym, ap, _∙_}
 use mathlib.Core.List.{List, [], _∷_, _++_, append-nil, append-assoc}
 use Prim.Native.Nat.{ℕ, suc, _+_, _-_, _*_, _/_, _%_, _^_, _<_}
-use native.Mathlib.Nat.{add-zero, zero-add, div-one, le-refl}
+use native.Mathlib.Nat.{zero-add, div-one, le-refl}
 use native.Mathlib.Numerals.{add-one}
 use native.Mathlib.Omega.{arith}
 use lib.Dec.{lit<}
 use lib.ListN.{length, set, drop, getD}
-use lib.Seq.{sets, sets-eq, drop-cons}
+use lib.Seq.{sets, sets-eq, drop-cons, drop-length}
 use Rattle.openjoc_bitio.specs.Bits.{swapOctets}
 use Rattle.openjoc_bitio.proofs.Bits.{swap-octet}
+use Rattle.emdf_format.proofs.Bytes.{sets-append}
 use Rattle.emdf_answers.specs.Form.{bigEndian, words}
 use Rattle.emdf_answers.proofs.Form.{length-big-endian, length-words}
 
@@ -33,15 +34,11 @@ module _ (l : List ℕ) (at v : ℕ) (h : v < 2 ^ 64) where
       let j : at + 7 ≡ suc (suc (suc (suc (suc (suc (suc at)))))) = omega arith in
       rw (e, first, octet 1 (lit< tt), octet 2 (lit< tt), octet 3 (lit< tt), octet 4 (lit< tt), octet 5 (lit< tt), octet 6 (lit< tt), octet 7 (lit< tt), div-one, b, c, d, f, g, i, j)
 
-pub sets-append : (l : List ℕ) (i : ℕ) (xs ys : List ℕ) → sets (sets l i xs) (i + length xs) ys ≡ sets l i (xs ++ ys)
-sets-append l i [] ys = rw add-zero
-sets-append l i (x ∷ xs) ys = let e : i + suc (length xs) ≡ suc i + length xs = omega arith in rw e (sets-append (set l i x) (suc i) xs ys)
-
 -- a word stored, and the words after it
 pub words-stored : (l : List ℕ) (i v : ℕ) (vs : List ℕ) → sets (sets l i (bigEndian 8 v)) (i + 8) (words vs) ≡ sets l i (words (v ∷ vs))
 unfolding words
 words-stored l i v vs =
-    ap (λ (n : ℕ). sets (sets l i (bigEndian 8 v)) (i + n) (words vs)) (sym (length-big-endian 8 v)) ∙ sets-append l i (bigEndian 8 v) (words vs)
+    ap (λ (n : ℕ). sets (sets l i (bigEndian 8 v)) (i + n) (words vs)) (sym (length-big-endian 8 v)) ∙ sym (sets-append l i (bigEndian 8 v) (words vs))
 
 words-append : (xs ys : List ℕ) → words (xs ++ ys) ≡ words xs ++ words ys
 unfolding words
@@ -50,15 +47,11 @@ words-append (x ∷ xs) ys = rw (words-append xs ys) (sym (append-assoc (bigEndi
 
 -- some words stored, and others after them
 pub words-then : (l : List ℕ) (i : ℕ) (xs ys : List ℕ) {k : ℕ} → k ≡ i + 8 * length xs → sets (sets l i (words xs)) k (words ys) ≡ sets l i (words (xs ++ ys))
-words-then l i xs ys e = rw (e, words-append, ← length-words xs) (sets-append l i (words xs) (words ys))
-
-drop-all : (l : List ℕ) → drop (length l) l ≡ []
-drop-all [] = refl
-drop-all (x ∷ xs) = drop-all xs
+words-then l i xs ys e = rw (e, words-append, ← length-words xs) (sym (sets-append l i (words xs) (words ys)))
 
 -- a list stored over one of its own length
 stored-whole : (l xs : List ℕ) → length xs ≡ length l → sets l 0 xs ≡ xs
-stored-whole l xs e = sets-eq xs l 0 (rw (zero-add, e) (le-refl _)) ∙ rw (zero-add, e, drop-all) (append-nil xs)
+stored-whole l xs e = sets-eq xs l 0 (rw (zero-add, e) (le-refl _)) ∙ rw (zero-add, e, drop-length) (append-nil xs)
 
 -- the i-th of some words stored, and none left
 pub word-stored : (l : List ℕ) (at i : ℕ) (vs : List ℕ) → i < length vs
@@ -69,7 +62,7 @@ word-stored l at i vs h =
 
 pub words-done : (l : List ℕ) (at i : ℕ) (vs : List ℕ) → i ≡ length vs → sets l at (words (drop i vs)) ≡ l
 unfolding words
-words-done l at i vs e = rw (e, drop-all)
+words-done l at i vs e = rw (e, drop-length)
 
 -- over the whole of a list
 pub words-whole : (l vs : List ℕ) → 8 * length vs ≡ length l → sets l 0 (words vs) ≡ words vs

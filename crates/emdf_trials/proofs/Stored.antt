@@ -1,15 +1,15 @@
 -- Lists that are stored element by element. Assumes nothing.
-use mathlib.Core.Path.{_≡_, refl, ap, _∙_}
+use mathlib.Core.Path.{_≡_, refl, sym}
 use mathlib.Core.List.{List, [], _∷_}
 use Prim.Native.Nat.{ℕ, zero, suc, _+_, _-_, _*_, _≤_, _<_}
 use native.Mathlib.Omega.{arith}
 use lib.ListN.{length, set, take, drop, getD, drop-of-length-le}
 use lib.Seq.{sets, drop-cons}
 use Rattle.emdf_format.specs.declared.PayloadRecord.{PayloadRecord}
+use Rattle.emdf_format.proofs.Bytes.{sets-append}
 use Rattle.emdf_answers.specs.Form.{words}
 use Rattle.emdf_answers.specs.Carriers.{recordWords, rowsBytes}
 use Rattle.emdf_rows.proofs.Rows.{length-record}
-use Rattle.emdf_rows.proofs.Stored.{sets-append}
 
 -- the next of n, and those after it
 next : {X : Type 0} (n i : ℕ) (xs : List X) (d : X) → i < n → i < length xs → take (n - i) (drop i xs) ≡ getD xs i d ∷ take (n - (i + 1)) (drop (i + 1) xs)
@@ -42,7 +42,7 @@ unfolding rowsBytes
 row-stored n i table records d h k =
     let r = getD records i d in
     let e : (i + 1) * 216 ≡ i * 216 + length (words (recordWords r)) = omega (arith, length-record r) in
-    rw (next n i records d h k, e) (sets-append table (i * 216) (words (recordWords r)) (rowsBytes (take (n - (i + 1)) (drop (i + 1) records))))
+    rw (next n i records d h k, e) (sym (sets-append table (i * 216) (words (recordWords r)) (rowsBytes (take (n - (i + 1)) (drop (i + 1) records)))))
 
 pub rows-done : (n i : ℕ) (table : List ℕ) (records : List PayloadRecord) → n ≤ i → table ≡ sets table (i * 216) (rowsBytes (take (n - i) (drop i records)))
 unfolding rowsBytes

@@ -7,7 +7,6 @@ use lib.Dec.{leb, eqb}
 use Rattle.openjoc_bitio.specs.Choice.{if_then_else_}
 use Rattle.openjoc_bitio.specs.Cursor.{wholeSlice, bitsRemaining, readBits, readBit, takeBits, byteAlign}
 use Rattle.openjoc_bitio.specs.declared.BitCursor.{BitCursor}
-use Rattle.openjoc_bitio.specs.declared.BitOffset.{BitOffset}
 use Rattle.openjoc_bitio.specs.declared.BitsAnswer.{BitsAnswer}
 use Rattle.openjoc_bitio.specs.declared.BitsAnswer.the-variants as BitsAnswer
 use Rattle.openjoc_bitio.specs.declared.BitAnswer.{BitAnswer}
@@ -25,7 +24,6 @@ use Rattle.openjoc_bit_reader.specs.declared.MoveResult.the-variants as MoveRes
 use Rattle.emdf_format.specs.Reading.{reading}
 use Rattle.emdf_format.specs.Refusals.{refusalOf, figuresOf}
 use Rattle.emdf_format.specs.Calls.{Records, inTable, tableAfter}
-use Rattle.emdf_format.specs.declared.Optional.{Optional}
 use Rattle.emdf_format.specs.declared.Optional.the-variants.{Present}
 use Rattle.emdf_format.specs.declared.PayloadRecord.{PayloadRecord}
 use Rattle.openjoc_emdf.specs.declared.ParseAnswer.{ParseAnswer}

@@ -1,5 +1,5 @@
 -- A run taken bit by bit, and one put in other ways: their bytes are the same. Assumes nothing.
-use mathlib.Core.Path.{_≡_, refl, sym, ap, _∙_}
+use mathlib.Core.Path.{_≡_, refl, sym, _∙_}
 use mathlib.Core.List.{List, [], _∷_}
 use Prim.Native.Nat.{ℕ, zero, suc, _+_, _-_, _*_, _/_, _%_, _<_, _≤_}
 use native.Mathlib.Omega.{arith}
@@ -10,7 +10,7 @@ use Rattle.openjoc_bitio.proofs.Bits.{bit-range}
 use Rattle.emdf_format.specs.Syntax.{octetBits}
 use Rattle.emdf_format.specs.Edits.{Bytes}
 use Rattle.emdf_format.proofs.Splice.{same-octets}
-use Rattle.emdf_writer.specs.Writing.{bitRun, byteWith, bitPut, bitsPut}
+use Rattle.emdf_writer.specs.Writing.{bitRun, bitPut, bitsPut}
 use Rattle.emdf_writer.proofs.Stored.{part-stored, with-code}
 use Rattle.emdf_writer.proofs.Run.{run-first, run-none}
 

@@ -6,15 +6,15 @@ use native.Mathlib.Nat.{add-zero, sub-zero}
 use native.Mathlib.Omega.{arith}
 use native.Mathlib.Decide.{decLt}
 use lib.ListN.{length, getD, set, drop, List·getD-append}
-use lib.Pow.{high, low}
+use lib.Pow.{high}
 use lib.Seq.{sets, drop-cons, drop-drop, take-add, getD-append-add}
 use Rattle.openjoc_bitio.specs.Bits.{bitAt, bitsValue, numberBits}
 use Rattle.openjoc_bitio.proofs.Bits.{bit-range, value-first, value-range, value-split, length-number, number-high}
 use Rattle.emdf_format.specs.Syntax.{_⨟_, octetBits}
-use Rattle.emdf_format.proofs.Bytes.{byte-value}
+use Rattle.emdf_format.proofs.Bytes.{sets-append}
 use Rattle.emdf_format.proofs.Payloads.{length-octets}
 use Rattle.emdf_writer.specs.Writing.{bitRun}
-use Rattle.emdf_writer.proofs.Stored.{sets-append, octet-stored}
+use Rattle.emdf_writer.proofs.Stored.{octet-stored}
 
 -- ---- a run is the bits of a number
 
@@ -40,7 +40,8 @@ getD-octets (x ∷ s) p h = go (decLt p 8) (λ l. getD-octets s (p - 8) l)
         let j : p % 8 ≡ (p - 8) % 8 = omega arith in
         ap (λ (k : ℕ). getD (numberBits 8 x ++ octetBits s) k 0) d ∙ getD-append-add (numberBits 8 x) (octetBits s) (p - 8) 0 ∙ f (omega arith) ∙ rw (i, j)
 
-run-nil : (s : List ℕ) (p : ℕ) → bitRun s p 0 ≡ []
+-- no bits of it
+pub run-nil : (s : List ℕ) (p : ℕ) → bitRun s p 0 ≡ []
 unfolding bitRun
 run-nil s p = refl
 

@@ -11,6 +11,7 @@ use lib.Seq.{sets, set-append-left}
 use Rattle.openjoc_bitio.specs.Bits.{numberBits}
 use Rattle.openjoc_bitio.proofs.Bits.{length-number, number-high, number-low}
 use Rattle.emdf_format.specs.Syntax.{_⨟_, octetBits}
+use Rattle.emdf_format.proofs.Bytes.{sets-append}
 use Rattle.emdf_writer.specs.Writing.{byteWith}
 
 -- ---- bits set in a list
@@ -18,10 +19,6 @@ use Rattle.emdf_writer.specs.Writing.{byteWith}
 sets-cons : (x : ℕ) (l : List ℕ) (p : ℕ) (bs : List ℕ) → sets (x ∷ l) (suc p) bs ≡ x ∷ sets l p bs
 sets-cons x l p [] = refl
 sets-cons x l p (b ∷ bs) = sets-cons x (set l p b) (suc p) bs
-
-pub sets-append : (l : List ℕ) (p : ℕ) (xs ys : List ℕ) → sets l p (xs ++ ys) ≡ sets (sets l p xs) (p + length xs) ys
-sets-append l p [] ys = rw add-zero
-sets-append l p (x ∷ xs) ys = let e : p + suc (length xs) ≡ suc p + length xs = omega arith in rw e (sets-append (set l p x) (suc p) xs ys)
 
 -- in the front of two parts, in the back, and all of it
 sets-front : (xs ys : List ℕ) (p : ℕ) (bs : List ℕ) → p + length bs ≤ length xs → sets (xs ++ ys) p bs ≡ sets xs p bs ++ ys

@@ -6,7 +6,6 @@ ghost use Rattle.emdf_format.specs.Reading.{reading};
 ghost use Rattle.emdf_format.specs.Calls.{classify};
 ghost use lib.ListN.{length};
 ghost use Rattle.openjoc_emdf.specs.Answers.{parseAnswer, parsedOf, classAnswer, classifiedOf, reachedBy, firstPayload, openAnswer, parseError};
-ghost use Rattle.emdf_container.specs.Container.{protectionBytes, bytesAnswer, valueThere, paddingValue, IsEnd, containerAfter, containerAnswer, bytesError};
 use emdf_container::ContainerAnswer;
 use emdf_container::EmdfContainer;
 use emdf_fields::FieldAnswer;
