@@ -3,21 +3,19 @@ use mathlib.Core.Path.{_≡_, refl, _∙_}
 use mathlib.Core.List.{List, _++_}
 use Prim.Native.Nat.{ℕ, _+_, _-_, _*_, _^_, _<_, _≤_}
 use native.Mathlib.Omega.{arith}
-use lib.ListN.{length, take, drop, length-drop}
-use lib.Seq.{sets, length-take-le}
+use lib.ListN.{length, take, drop}
+use lib.Seq.{sets}
 use Rattle.openjoc_bitio.specs.Bits.{numberBits}
-use Rattle.openjoc_bitio.proofs.Bits.{length-number}
 use Rattle.emdf_format.specs.declared.EditError.{EditError}
 use Rattle.emdf_format.specs.declared.EditAnswer.{EditAnswer}
 use Rattle.emdf_format.specs.declared.EditAnswer.the-variants.{Written, Refused}
 use Rattle.emdf_format.specs.Syntax.{_⨟_, octetBits}
 use Rattle.emdf_format.specs.Contents.{carrier}
 use Rattle.emdf_format.specs.Edits.{Bytes, carrierLength, stepAnswer, written, edited}
-use Rattle.emdf_format.proofs.Standing.{length-then}
 use Rattle.emdf_format.proofs.Bytes.{declared-is}
-use Rattle.emdf_format.proofs.Payloads.{length-octets}
 use Rattle.emdf_format.proofs.Splice.{⨟-assoc}
 use Rattle.emdf_writer.specs.Writing.{bitRun}
+use Rattle.emdf_writer.proofs.Run.{length-run}
 use Rattle.emdf_plan.specs.declared.Cut.{Cut}
 use Rattle.emdf_plan.specs.declared.Plan.the-variants as Plan
 use Rattle.emdf_request.specs.Requests.{editOf, newBits}
@@ -26,16 +24,9 @@ use Rattle.emdf_field_writer.specs.Fields.{syncBits}
 use Rattle.emdf_request.specs.declared.Request.{Request}
 use Rattle.emdf_edit.specs.Cuts.{keptBits, Within}
 use Rattle.emdf_edit.specs.Sequences.{Called}
+use Rattle.emdf_field_writer.proofs.Putting.{length-sync}
 use Rattle.emdf_field_writer.proofs.Written.{front-written}
 use Rattle.emdf_plan.proofs.Spliced.{Spliceable, plan-refused}
-
-pub length-sync : (n : ℕ) → length (syncBits n) ≡ 32
-unfolding syncBits
-length-sync n = simp (length-then, length-number)
-
-length-run : (s : List ℕ) (p n : ℕ) → p + n ≤ length s * 8 → length (bitRun s p n) ≡ n
-unfolding bitRun
-length-run s p n h = length-take-le n (drop p (octetBits s)) (omega (arith, length-drop p (octetBits s), length-octets s))
 
 module _ {s : List ℕ} {cut : Cut} {new : List ℕ} (w : Within s cut new) where
   abbrev from : ℕ

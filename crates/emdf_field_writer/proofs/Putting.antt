@@ -13,7 +13,7 @@ use borrow.Author.Tests.{lt-ltb, le-ltb, le-leb}
 use Rattle.openjoc_bitio.specs.Bits.{numberBits}
 use Rattle.openjoc_bitio.specs.Cursor.{bitLength}
 use Rattle.openjoc_bitio.proofs.Bits.{length-number, number-low}
-use Rattle.emdf_format.specs.Syntax.{_⨟_, groupsBefore, variableField, escape, extendedField, octetBits}
+use Rattle.emdf_format.specs.Syntax.{syncword, _⨟_, groupsBefore, variableField, escape, extendedField, octetBits}
 use Rattle.emdf_format.specs.Contents.{protectionBits}
 use Rattle.emdf_format.proofs.Standing.{length-then}
 use Rattle.emdf_format.proofs.Bytes.{sets-append}
@@ -146,6 +146,16 @@ pub length-protection : (a b : List ℕ) → length (protectionBits a b) ≡ 4 +
 unfolding protectionBits
 length-protection a b = simp (length-then, length-number) (omega arith)
 
+pub length-sync : (n : ℕ) → length (syncBits n) ≡ 32
+unfolding syncBits
+length-sync n = simp (length-then, length-number)
+
+pub sync-put : (out mid end : List ℕ) (n : ℕ) → octetBits mid ≡ sets (octetBits out) 0 (numberBits 16 syncword) → octetBits end ≡ sets (octetBits mid) 16 (numberBits 16 n)
+    → Put out 0 (syncBits n) end 32
+unfolding syncBits
+sync-put out mid end n a b =
+    then-put out mid end (numberBits 16 syncword) (numberBits 16 n) 0 {p = 16} {q = 32} (omega (arith, length-number 16 syncword), a) (omega (arith, length-number 16 n), b)
+
 pub length-header : (n key : ℕ) → length (headerBits n key) ≡ 34 + length (extendedField 3 key)
-unfolding headerBits syncBits
-length-header n key = simp (length-then, length-number) (omega arith)
+unfolding headerBits
+length-header n key = simp (length-then, length-number, length-sync) (omega arith)

@@ -19,8 +19,8 @@ use Rattle.emdf_container.specs.Container.{containerOf, protectionBytes}
 use Rattle.openjoc_emdf.specs.declared.ParsedEmdf.{ParsedEmdf}
 use Rattle.emdf_payloads.specs.Payloads.{stepAt}
 use Rattle.emdf_plan.specs.Plan.{layoutOf}
-use Rattle.emdf_plan.specs.Walking.{pastPayloads, stepTrace}
-use Rattle.emdf_plan.proofs.Walked.{Ahead, past-many, past-all, trace-past}
+use Rattle.emdf_plan.specs.Walking.{pastPayloads, placedAt}
+use Rattle.emdf_plan.proofs.Walked.{Ahead, past-many, past-rest, trace-past}
 
 -- how far a container that is read goes
 pub end-limit : (s : List ℕ) (n : ℕ) (c : Container) → reading s ≡ accepted n c → 32 + neededBits (contentsOf c) ≤ 8 * 65539
@@ -63,7 +63,7 @@ module _ {s : List ℕ} {p : ParsedEmdf} {first : BitCursor} (o : Opened s p fir
       let l = rw (length-then, length-number, length-extended) at (stands-to (k .key)) in
       omega (arith, ap (λ (c : BitCursor). c .position) (o .from), a, l)
 
-  -- ---- its layout, by the cursors past the payloads before a place and past the others
+  -- ---- its layout, by the cursors past the payloads before a place, past its own and past the others
 
   abbrev mark : ℕ
   mark = 37 + extensionBits 3 (c .key-id) + neededPayloads (payloadsOf (c .found))
@@ -73,7 +73,7 @@ module _ {s : List ℕ} {p : ParsedEmdf} {first : BitCursor} (o : Opened s p fir
     at = pastPayloads s first k
 
     abbrev last : BitCursor
-    last = pastPayloads s at (p .container .payloads - k)
+    last = pastPayloads s (placedAt (stepAt s at) at .next) (p .container .payloads - 1 - k)
 
     ahead : Ahead s mark first (c .found)
     ahead =
@@ -82,8 +82,8 @@ module _ {s : List ℕ} {p : ParsedEmdf} {first : BitCursor} (o : Opened s p fir
 
     last-at : last .position ≡ mark
     last-at =
-        let z : p .container .payloads - k ≡ length (drop k (c .found)) = omega (arith, count, length-drop k (c .found)) in
-        rw z (past-all s mark at (drop k (c .found)) (past-many s mark k first (c .found) h ahead))
+        let z : p .container .payloads - 1 - k ≡ length (drop k (c .found)) - 1 = omega (arith, count, length-drop k (c .found)) in
+        rw z (past-rest s mark at (drop k (c .found)) (past-many s mark k first (c .found) h ahead))
 
     end-at : last .position + 5 + 4 + 8 * octets p ≡ 32 + neededBits (contentsOf c)
     unfolding neededBits
@@ -94,7 +94,7 @@ module _ {s : List ℕ} {p : ParsedEmdf} {first : BitCursor} (o : Opened s p fir
 
     pub laid : record {
       first = record { 0 = first .position };
-      place = stepTrace (stepAt s at) at;
+      place = placedAt (stepAt s at) at .trace;
       codes = record { 0 = last .position + 5 };
       end = record { 0 = last .position + 5 + 4 + 8 * octets p };
     } ≡ layoutOf k c

@@ -1,7 +1,7 @@
 -- The cursor past payloads of a carrier that is read, and what stands there. Assumes nothing.
 use mathlib.Core.Path.{_≡_, refl, sym, ap, _∙_}
 use mathlib.Core.List.{List, [], _∷_}
-use Prim.Native.Nat.{ℕ, zero, suc, _+_, _≤_}
+use Prim.Native.Nat.{ℕ, zero, suc, _+_, _-_, _≤_}
 use native.Mathlib.Omega.{arith}
 use lib.ListN.{length, drop, getElem?}
 use Rattle.openjoc_bitio.specs.declared.BitCursor.{BitCursor}
@@ -17,7 +17,7 @@ use Rattle.emdf_payloads.specs.Payloads.{NextPayload, ended, found, nextPayload
 use Rattle.emdf_payloads.specs.declared.PayloadStep.the-variants as PayloadStep
 use Rattle.emdf_payloads.proofs.Walk.{listed-step, listed-end}
 use Rattle.emdf_plan.specs.Plan.{traceAt}
-use Rattle.emdf_plan.specs.Walking.{pastStep, pastPayloads, stepTrace}
+use Rattle.emdf_plan.specs.Walking.{pastStep, pastPayloads, placedAt}
 
 -- ---- a step over a payload
 
@@ -83,15 +83,26 @@ module _ (s : List ℕ) (mark : ℕ) where
   past-many (suc n) c (x ∷ xs) h a = past-many n _ xs (omega arith) (past-one c x xs a)
 
   -- past all of them is the end mark
-  pub past-all : (c : BitCursor) (xs : List Found) → Ahead s mark c xs → pastPayloads s c (length xs) .position ≡ mark
+  past-all : (c : BitCursor) (xs : List Found) → Ahead s mark c xs → pastPayloads s c (length xs) .position ≡ mark
   unfolding pastPayloads payloadsOf neededPayloads
   past-all c [] a = omega (arith, a .marked)
   past-all c (x ∷ xs) a = past-all _ xs (past-one c x xs a)
 
+  -- past the first, where there is one, and then past the others
+  pub past-rest : (c : BitCursor) (xs : List Found) → Ahead s mark c xs → pastPayloads s (placedAt (stepAt s c) c .next) (length xs - 1) .position ≡ mark
+  unfolding pastPayloads skipOf payloadsOf neededPayloads
+  past-rest c [] a =
+      let (n, e) = listed-end s c (a .listed) in
+      rw e (omega (arith, a .marked))
+  past-rest c (x ∷ xs) a =
+      let e = listed-step s c x xs (a .listed) .is in
+      let z : suc (length xs) - 1 ≡ length xs = omega arith in
+      rw (e, z) (rw e at (past-all _ xs (past-one c x xs a)))
+
   -- the spans of the payload at place k; at the end of the list, of nothing
   pub trace-past : (k : ℕ) (c : BitCursor) (xs : List Found) → k ≤ length xs → Ahead s mark c xs
-      → stepTrace (stepAt s (pastPayloads s c k)) (pastPayloads s c k) ≡ traceAt (getElem? xs k) mark
-  unfolding pastPayloads stepTrace traceAt payloadsOf neededPayloads
+      → placedAt (stepAt s (pastPayloads s c k)) (pastPayloads s c k) .trace ≡ traceAt (getElem? xs k) mark
+  unfolding pastPayloads traceAt payloadsOf neededPayloads
   trace-past zero c [] h a =
       let (n, e) = listed-end s c (a .listed) in
       let z : c .position ≡ mark = omega (arith, a .marked) in

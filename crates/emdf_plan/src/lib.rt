@@ -1,12 +1,12 @@
 // What an edit asks before it writes, and where it cuts its source.
 ghost use mathlib.Core.Path.{_≡_};
-ghost use Prim.Native.Nat.{_+_, _*_, _^_, _<_, _≤_};
+ghost use Prim.Native.Nat.{_+_, _-_, _*_, _^_, _<_, _≤_};
 ghost use lib.ListN.{length};
 ghost use Rattle.emdf_format.specs.Reading.{traceOf};
 ghost use Rattle.emdf_payloads.specs.Payloads.{stepAt};
 ghost use Rattle.openjoc_emdf.specs.Answers.{Opened};
 ghost use Rattle.emdf_plan.specs.Plan.{layoutOf, edgeAt, CutIn, measure, planOf};
-ghost use Rattle.emdf_plan.specs.Walking.{pastStep, pastPayloads, stepTrace};
+ghost use Rattle.emdf_plan.specs.Walking.{pastStep, pastPayloads, nothingAt, placedAt};
 use emdf_format::EditError;
 use emdf_format::EmdfPayloadBitTrace;
 use emdf_format::MAX_DECLARED;
@@ -34,6 +34,12 @@ pub struct Layout {
     pub place: EmdfPayloadBitTrace,
     pub codes: BitOffset,
     pub end: BitOffset,
+}
+
+// The spans of the payload that stands at a cursor, or of nothing, and the cursor past it.
+pub struct Placed {
+    pub trace: EmdfPayloadBitTrace,
+    pub next: BitCursor,
 }
 
 // The bits to replace in a source whose container ends at a bit, and the bytes that the container declares afterwards.
@@ -102,13 +108,16 @@ fn lay_out(source: &[u8], parsed: ParsedEmdf, first: BitCursor, place: usize) ->
     ensures { λ r. ⌜ ((o : Opened (now (source .entry)) parsed first) → r ≡ layoutOf place (o .container)) ⌝ }
 {
     let at = skip_payloads(source, first, place);
-    let mark = skip_payloads(source, at, parsed.container.payloads - place);
+    let placed = place_at(source, at);
+    let trace = placed.trace;
+    let later = places_after(place, parsed.container.payloads);
+    let mark = skip_payloads(source, placed.next, later);
     let codes = mark.position + 5;
     let protection = parsed.container.protection;
     let octets = protection.primary.length.0 + protection.secondary.length.0;
     Layout {
         first: BitOffset(first.position),
-        place: trace_at(source, at),
+        place: trace,
         codes: BitOffset(codes),
         end: BitOffset(codes + 4 + 8 * octets),
     }
@@ -138,15 +147,35 @@ fn past(step: SkipStep, c: BitCursor) -> BitCursor
     }
 }
 
-// The spans of the payload that stands at c, or of nothing.
-fn trace_at(source: &[u8], c: BitCursor) -> EmdfPayloadBitTrace
-    ensures { λ r. ⌜ r ≡ stepTrace (stepAt (now (source .entry)) c) c ⌝ }
+// How many of so many payloads stand after a place.
+fn places_after(place: usize, payloads: usize) -> usize
+    ensures { λ r. ⌜ r ≡ payloads - 1 - place ⌝ }
+{
+    if payloads <= place {
+        return 0;
+    }
+    payloads - 1 - place
+}
+
+// What stands at c.
+fn place_at(source: &[u8], c: BitCursor) -> Placed
+    ensures { λ r. ⌜ r ≡ placedAt (stepAt (now (source .entry)) c) c ⌝ }
 {
     match next_payload(source, c) {
-        PayloadStep::Payload(record, _) => record.trace,
-        PayloadStep::End(_) => empty_trace(c.position),
-        PayloadStep::Refused(_) => empty_trace(c.position),
+        PayloadStep::Payload(record, next) => {
+            let trace = record.trace;
+            Placed { trace, next }
+        }
+        PayloadStep::End(_) => nothing_at(c),
+        PayloadStep::Refused(_) => nothing_at(c),
     }
+}
+
+fn nothing_at(c: BitCursor) -> Placed
+    ensures { λ r. ⌜ r ≡ nothingAt c ⌝ }
+{
+    let trace = empty_trace(c.position);
+    Placed { trace, next: c }
 }
 
 fn empty_trace(at: usize) -> EmdfPayloadBitTrace

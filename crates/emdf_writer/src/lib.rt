@@ -25,6 +25,15 @@ pub fn put_number(out: &mut [u8], at: usize, width: usize, v: u64) -> bool
     true
 }
 
+// The 16 low bits of v, in the bytes at i and i + 1.
+pub fn put_pair(out: &mut [u8], i: usize, v: u64)
+    requires { ⌜ i + 1 < length (now out) ⌝ }
+    ensures { λ _. ⌜ octetBits (now (out .exit)) ≡ sets (octetBits (now (out .entry))) (i * 8) (numberBits 16 v) ⌝ }
+{
+    out[i] = (v / 256 % 256) as u8;
+    out[i + 1] = (v % 256) as u8;
+}
+
 // n bits of s from bit from on, to out from bit at on: every byte is as if they were taken one by one. Answers whether they were put:
 // nothing is where they are not there, or don't fit.
 pub fn copy_bits(out: &mut [u8], at: usize, s: &[u8], from: usize, n: usize) -> bool
