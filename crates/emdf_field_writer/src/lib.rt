@@ -214,8 +214,8 @@ pub fn put_sync(out: &mut [u8], size: ByteCount) -> BitOffset
     requires { ⌜ Room (now out) 0 (syncBits (size .0)) ⌝ }
     ensures { λ r. ⌜ Put (now (out .entry)) 0 (syncBits (size .0)) (now (out .exit)) (r .0) ⌝ }
 {
-    emdf_writer::put_pair(out, 0, emdf_format::SYNCWORD as u64);
-    emdf_writer::put_pair(out, 2, size.0 as u64);
+    emdf_writer::put_u16(out, 0, emdf_format::SYNCWORD as u64);
+    emdf_writer::put_u16(out, 2, size.0 as u64);
     BitOffset(32)
 }
 

@@ -126,8 +126,8 @@ unfolding numberBits
 number-none l p n v e = rw e
 
 -- 16 bits as two bytes
-pub pair-stored : (l : List ℕ) (i v : ℕ) → i + 1 < length l → octetBits (set (set l i (v / 256 % 256)) (i + 1) (v % 256)) ≡ sets (octetBits l) (i * 8) (numberBits 16 v)
-pair-stored l i v h =
+pub u16-stored : (l : List ℕ) (i v : ℕ) → i + 1 < length l → octetBits (set (set l i (v / 256 % 256)) (i + 1) (v % 256)) ≡ sets (octetBits l) (i * 8) (numberBits 16 v)
+u16-stored l i v h =
     let e : (i + 1) * 8 ≡ i * 8 + 8 = omega arith in
     octet-stored (set l i (v / 256 % 256)) (i + 1) (v % 256) (rw length-set h)
     ∙ rw (octet-stored l i (v / 256 % 256) (omega arith), e, number-low 8 v) (number-more (octetBits l) (i * 8) 16 8 v (omega arith))

@@ -26,7 +26,7 @@ pub fn put_number(out: &mut [u8], at: usize, width: usize, v: u64) -> bool
 }
 
 // The 16 low bits of v, in the bytes at i and i + 1.
-pub fn put_pair(out: &mut [u8], i: usize, v: u64)
+pub fn put_u16(out: &mut [u8], i: usize, v: u64)
     requires { ⌜ i + 1 < length (now out) ⌝ }
     ensures { λ _. ⌜ octetBits (now (out .exit)) ≡ sets (octetBits (now (out .entry))) (i * 8) (numberBits 16 v) ⌝ }
 {

@@ -1,7 +1,7 @@
 use borrow.Author.Needs.{needs}
-use Rattle.emdf_writer.proofs.Stored.{pair-stored}
-use Rattle.emdf_writer.proofs.put_pair.Statement.{statement}
-use Rattle.emdf_writer.proofs.put_pair.Tie as tie
+use Rattle.emdf_writer.proofs.Stored.{u16-stored}
+use Rattle.emdf_writer.proofs.put_u16.Statement.{statement}
+use Rattle.emdf_writer.proofs.put_u16.Tie as tie
 
 cast-out : tie.Need-cast-out
 cast-out c = search needs
@@ -22,9 +22,9 @@ same-length : tie.Need-same-length
 same-length c = search needs
 
 returns : tie.Need-returns
-returns c = pair-stored _ _ _ (c .pre)
+returns c = u16-stored _ _ _ (c .pre)
 
-pub put-pair-spec : {M : Type 1} → statement M
-put-pair-spec =
+pub put-u16-spec : {M : Type 1} → statement M
+put-u16-spec =
     tie.close
     (tie.spec cast-out slice-write-out cast-out-2 add-out slice-write-out-2 same-length returns)
