@@ -5,16 +5,6 @@
 
 #include "program.h"
 
-static int say_refused(const char *about, uint32_t number, const uint8_t *answer, const char *hint)
-{
-    fputs("emdf: ", stderr);
-    print_text(stderr, about);
-    fputs(": refused, ", stderr);
-    print_refusal(stderr, number, emdf_word(answer, 0), emdf_word(answer, 1));
-    fprintf(stderr, "%s\n", hint);
-    return REFUSED;
-}
-
 int command_body(char **words)
 {
     static struct input input;

@@ -13,7 +13,7 @@ enum {
 int load_input(struct input *input, const char *name)
 {
     input->name = input_title(name);
-    return load_file(name, input->bytes, sizeof input->bytes, 0, &input->length);
+    return load_file(name, input->bytes, sizeof input->bytes, "which no carrier is", &input->length);
 }
 
 /* Where the key id ends: a carrier that is read has one, and its escape adds a variable field. */

@@ -1,32 +1,17 @@
-/* emdf edit: edits in order, each on what the one before it left. */
+/* Edits: their words, and the calls that make them; and emdf edit, edits in order, each on what the one before it left. */
 #include <inttypes.h>
 #include <stdlib.h>
 #include <string.h>
 
 #include "program.h"
 
-struct edit {
-    char **words; /* its name, and what follows it up to the next edit */
-    size_t count;
-    uint64_t place, id; /* id: of a payload or a key */
-    const uint8_t *base; /* the settings that it starts from; NULL: those of the payload */
-    uint8_t values[EMDF_SETTINGS_BYTES]; /* where is_named */
-    int is_named[EMDF_SETTING_COUNT];
-    struct octets octets, secondary; /* a body, or the protections */
-};
-
-/* The carrier so far, and where the next one goes. */
-struct carriers {
-    struct input source;
-    uint8_t destination[CARRIER_MOST];
-    uint8_t answer[EMDF_EDIT_ANSWER_BYTES];
-};
+enum { WORD_SHOWN = 40 }; /* characters of it, in a message */
 
 /* ---- arguments: each function answers 0 after a complaint */
 
 static int wants(const struct edit *edit, const char *what)
 {
-    return usage_error("edit", "%s wants %s", edit->words[0], what), 0;
+    return usage_error(edit->command, "%s wants %s", edit->kind->name, what), 0;
 }
 
 /* A place is a number of the library's, which has the machine's width. */
@@ -52,7 +37,7 @@ static int parse_body(struct edit *edit, const char *text)
     if (!edit->octets.bytes)
         return complain(NULL, "out of memory"), 0;
     /* More than this isn't needed: the library refuses it at any length. */
-    return load_file(text + 1, edit->octets.bytes, BODY_MOST + 1, 1, &edit->octets.length);
+    return load_file(text + 1, edit->octets.bytes, BODY_MOST + 1, NULL, &edit->octets.length);
 }
 
 /* A word "name=value" of a setting, or from=bare, from=profile. */
@@ -72,14 +57,14 @@ static int parse_setting(struct edit *edit, const char *word)
             continue;
         is_absent = !strcmp(text, "absent");
         if (is_absent && !emdf_setting_is_optional(i))
-            return usage_error("edit", "%s is never absent", emdf_setting_name(i)), 0;
+            return usage_error(edit->command, "%s is never absent", emdf_setting_name(i)), 0;
         if (!is_absent && !parse_number(text, &value))
             break;
         edit->is_named[i] = 1;
         emdf_put_setting(edit->values, i, !is_absent, is_absent ? 0 : value);
         return 1;
     }
-    return usage_error("edit", "%s: no such setting, or no such value: %s", edit->words[0], word), 0;
+    return usage_error(edit->command, "%s: no such setting, or no such value: %s", edit->kind->name, word), 0;
 }
 
 static int parse_body_edit(struct edit *edit)
@@ -196,43 +181,88 @@ static uint32_t run_protection(struct carriers *c, const struct edit *edit)
 
 /* ---- the list of edits */
 
-struct kind {
-    const char *name;
-    int (*parse)(struct edit *edit);
-    uint32_t (*run)(struct carriers *c, const struct edit *edit);
-};
-
 static const struct kind KINDS[] = {
-    {"body", parse_body_edit, run_body}, {"set", parse_set, run_set}, {"drop", parse_drop, run_drop},
-    {"insert", parse_insert, run_insert}, {"key", parse_key, run_key}, {"protection", parse_protection, run_protection},
+    {"body", EMDF_RECIPE_BODY, parse_body_edit, run_body},
+    {"set", 0, parse_set, run_set},
+    {"drop", EMDF_RECIPE_DROP, parse_drop, run_drop},
+    {"insert", 0, parse_insert, run_insert},
+    {"key", EMDF_RECIPE_KEY, parse_key, run_key},
+    {"protection", 0, parse_protection, run_protection},
 };
 
-static const struct kind *find_kind(const char *name)
+enum { KIND_COUNT = sizeof KINDS / sizeof *KINDS };
+
+const struct kind *find_kind(const char *name)
 {
     size_t i;
-    for (i = 0; i < sizeof KINDS / sizeof *KINDS; i++)
+    for (i = 0; i < KIND_COUNT; i++)
         if (!strcmp(name, KINDS[i].name))
             return &KINDS[i];
     return NULL;
 }
 
-/* Takes the first edit of words: its name, and all up to the next name of an edit. */
-static int parse_edit(struct edit *edit, char **words)
+const struct kind *find_recipe_kind(unsigned number)
 {
-    const struct kind *kind = find_kind(words[0]);
-    memset(edit, 0, sizeof *edit);
-    edit->words = words;
-    if (!kind)
-        return usage_error("edit", "no such edit: %s", words[0]), 0;
-    for (edit->count = 1; words[edit->count] && !find_kind(words[edit->count]); edit->count++)
-        ;
-    return kind->parse(edit);
+    size_t i;
+    for (i = 0; i < KIND_COUNT; i++)
+        if (number && number == KINDS[i].in_recipe)
+            return &KINDS[i];
+    return NULL;
 }
 
-/* An edit's words, cut where they get long. */
-static void print_edit(const struct edit *edit)
+/* Takes the first edit of words: its name, and all up to the next name of an edit. */
+static int parse_edit(struct edit *edit, const char *command, char **words)
 {
-    enum { WORD_SHOWN = 40 };
+    memset(edit, 0, sizeof *edit);
+    edit->command = command;
+    edit->kind = find_kind(words[0]);
+    edit->words = words;
+    if (!edit->kind)
+        return usage_error(command, "no such edit: %s", words[0]), 0;
+    for (edit->count = 1; words[edit->count] && !find_kind(words[edit->count]); edit->count++)
+        ;
+    return edit->kind->parse(edit);
+}
+
+int parse_edits(const char *command, char **words, struct edits *edits)
+{
+    char **word = words;
+    int is_parsed = 1;
+    while (*word)
+        word++;
+    edits->count = 0;
+    edits->list = (struct edit *)calloc((size_t)(word - words), sizeof *edits->list);
+    if (!edits->list)
+        return complain(NULL, "out of memory"), 0;
+    for (word = words; is_parsed && *word; word += edits->list[edits->count++].count)
+        is_parsed = parse_edit(&edits->list[edits->count], command, word);
+    return is_parsed;
+}
+
+void free_edits(struct edits *edits)
+{
+    size_t i;
+    for (i = 0; i < edits->count; i++) {
+        free(edits->list[i].octets.bytes);
+        free(edits->list[i].secondary.bytes);
+    }
+    free(edits->list);
+}
+
+void print_edit(FILE *out, const struct edit *edit, size_t octets_shown)
+{
+    size_t length = edit->octets.length;
+    fprintf(out, "%s %" PRIu64, edit->kind->name, edit->kind->in_recipe == EMDF_RECIPE_KEY ? edit->id : edit->place);
+    if (edit->kind->in_recipe != EMDF_RECIPE_BODY)
+        return;
+    fputs(length ? " " : " -", out);
+    print_hex(out, edit->octets.bytes, length < octets_shown ? length : octets_shown);
+    fputs(length > octets_shown ? ".." : "", out);
+}
+
+/* The words as they were typed, cut where they get long. */
+static void print_words(const struct edit *edit)
+{
     size_t i;
     for (i = 0; i < edit->count; i++) {
         char word[WORD_SHOWN + 1];
@@ -248,39 +278,49 @@ static const char *find_hint(const struct edit *edit, uint32_t number)
 {
     if (number != EMDF_NOT_WRITABLE)
         return "";
-    if (!strcmp(edit->words[0], "protection"))
+    if (!strcmp(edit->kind->name, "protection"))
         return PROTECTION_HINT;
-    if (!strcmp(edit->words[0], "insert") && !edit->id)
+    if (!strcmp(edit->kind->name, "insert") && !edit->id)
         return "; an id is 1 or more";
     return "; emdf(1) says under SETTINGS what can";
 }
 
-/* A refusal is the file's fault where it comes from reading it, else the edit's. */
-static int say_refused(const struct carriers *c, const struct edit *edit, size_t i, uint32_t number)
+int is_of_source(uint32_t number)
 {
-    int is_of_file = number <= EMDF_NONZERO_PADDING || number == EMDF_TRAILING_BYTES || number == EMDF_TRUNCATED_HEADER;
-    fputs("emdf: ", stderr);
-    if (is_of_file) {
-        print_text(stderr, c->source.name);
-    } else {
-        fprintf(stderr, "edit %lu, ", (unsigned long)(i + 1));
-        print_edit(edit);
-    }
-    fputs(": refused, ", stderr);
-    print_refusal(stderr, number, emdf_word(c->answer, 0), emdf_word(c->answer, 1));
-    fprintf(stderr, "%s\n", find_hint(edit, number));
-    return REFUSED;
+    return number <= EMDF_NONZERO_PADDING || number == EMDF_TRAILING_BYTES || number == EMDF_TRUNCATED_HEADER;
 }
 
-static int run_edits(struct carriers *c, const struct edit *edits, size_t count, const char *out)
+int say_edit_refused(const struct carriers *c, const struct edit *edit, size_t i, uint32_t number)
 {
-    size_t i;
-    for (i = 0; i < count; i++) {
-        uint32_t number = find_kind(edits[i].words[0])->run(c, &edits[i]);
-        if (number != EMDF_ACCEPTED)
-            return say_refused(c, &edits[i], i, number);
+    if (is_of_source(number))
+        return say_refused(c->source.name, number, c->answer, "");
+    fprintf(stderr, "emdf: edit %lu, ", (unsigned long)(i + 1));
+    if (edit->words)
+        print_words(edit);
+    else
+        print_edit(stderr, edit, WORD_SHOWN / 2); /* two digits an octet */
+    return end_refused(number, c->answer, find_hint(edit, number));
+}
+
+uint32_t run_edit(struct carriers *c, const struct edit *edit)
+{
+    uint32_t number = edit->kind->run(c, edit);
+    if (number == EMDF_ACCEPTED) {
         c->source.length = (size_t)emdf_word(c->answer, EMDF_WRITTEN_LENGTH);
         memcpy(c->source.bytes, c->destination, c->source.length);
+    }
+    return number;
+}
+
+/* ---- the command: the first edit that is refused ends it */
+
+static int run_edits(struct carriers *c, const struct edits *edits, const char *out)
+{
+    size_t i;
+    for (i = 0; i < edits->count; i++) {
+        uint32_t number = run_edit(c, &edits->list[i]);
+        if (number != EMDF_ACCEPTED)
+            return say_edit_refused(c, &edits->list[i], i, number);
     }
     return save_file(out, c->source.bytes, c->source.length);
 }
@@ -288,11 +328,9 @@ static int run_edits(struct carriers *c, const struct edit *edits, size_t count,
 int command_edit(char **words)
 {
     static struct carriers carriers;
+    struct edits edits;
     const char *out;
-    struct edit *edits;
-    char **word;
-    size_t count = 0, i;
-    int status = FAILED, is_parsed = 1;
+    int status = FAILED;
     if (!take_output("edit", words, &out))
         return FAILED;
     if (!words[0])
@@ -301,19 +339,8 @@ int command_edit(char **words)
         return usage_error("edit", "no edit is named");
     if (!out)
         return usage_error("edit", "no output is named: -o OUT");
-    for (word = words; *word; word++)
-        ;
-    edits = (struct edit *)calloc((size_t)(word - words), sizeof *edits);
-    if (!edits)
-        return complain(NULL, "out of memory");
-    for (word = words + 1; is_parsed && *word; word += edits[count++].count)
-        is_parsed = parse_edit(&edits[count], word);
-    if (is_parsed && load_input(&carriers.source, words[0]))
-        status = run_edits(&carriers, edits, count, out);
-    for (i = 0; i < count; i++) {
-        free(edits[i].octets.bytes);
-        free(edits[i].secondary.bytes);
-    }
-    free(edits);
+    if (parse_edits("edit", words + 1, &edits) && load_input(&carriers.source, words[0]))
+        status = run_edits(&carriers, &edits, out);
+    free_edits(&edits);
     return status;
 }

@@ -59,7 +59,7 @@ static FILE *open_input(const char *name)
     return file;
 }
 
-int load_file(const char *name, uint8_t *bytes, size_t room, int may_be_cut, size_t *length)
+int load_file(const char *name, uint8_t *bytes, size_t room, const char *limit, size_t *length)
 {
     FILE *file = open_input(name);
     int is_loaded = 0;
@@ -69,8 +69,8 @@ int load_file(const char *name, uint8_t *bytes, size_t room, int may_be_cut, siz
     *length = fread(bytes, 1, room, file);
     if (ferror(file))
         complain(input_title(name), "%s", strerror(errno));
-    else if (*length == room && !may_be_cut)
-        complain(input_title(name), "longer than %lu bytes, which no carrier is", (unsigned long)(room - 1));
+    else if (*length == room && limit)
+        complain(input_title(name), "longer than %lu bytes, %s", (unsigned long)(room - 1), limit);
     else
         is_loaded = 1;
     if (file != stdin)

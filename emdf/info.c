@@ -37,7 +37,7 @@ static void print_class(const struct report *report)
         break;
     default:
         printf(input->length ? "no carrier: it starts with " : "no carrier: it is empty");
-        print_hex(input->bytes, input->length < 2 ? input->length : 2);
+        print_hex(stdout, input->bytes, input->length < 2 ? input->length : 2);
         if (input->length)
             printf(" and not with the sync word 5838");
     }
@@ -48,7 +48,7 @@ static void print_protection(const char *name, const uint8_t *bytes, size_t leng
 {
     printf(", %s protection ", name);
     if (length)
-        print_hex(bytes, length);
+        print_hex(stdout, bytes, length);
     else
         printf("none");
 }
@@ -107,7 +107,7 @@ static void print_body(const struct input *input, const uint8_t *row)
         printf(" at byte %" PRIu64, start / 8);
     if (n)
         printf(": ");
-    print_hex(first, n);
+    print_hex(stdout, first, n);
     puts(n < body_size(row) ? ".." : "");
 }
 
@@ -159,7 +159,7 @@ static void print_json_span(const char *name, uint64_t start, uint64_t end)
 static void print_json_hex(const char *name, const uint8_t *bytes, size_t length)
 {
     printf("\"%s\":\"", name);
-    print_hex(bytes, length);
+    print_hex(stdout, bytes, length);
     putchar('"');
 }
 

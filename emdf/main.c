@@ -16,6 +16,9 @@ static const struct command COMMANDS[] = {
     {"body", command_body, "FILE PLACE [-o OUT]", "the body of the payload at a place"},
     {"blank", command_blank, "[key=ID] [primary=HEX] [secondary=HEX] [-o OUT]", "a carrier without payloads"},
     {"edit", command_edit, "FILE -o OUT EDIT..", "edits, each on what the one before it left"},
+    {"recipe", command_recipe, "make -o RECIPE EDIT..", "a file of edits: body, drop and key alone"},
+    {"recipe", command_recipe, "show RECIPE", "its edits, a line each, in the words that make and edit take"},
+    {"recipe", command_recipe, "apply FILE RECIPE -o OUT", "its edits on a carrier; one that is refused is said, and left out"},
 };
 
 static const char DETAILS[] =
@@ -29,8 +32,8 @@ static const char DETAILS[] =
     "  key ID                                      another key id\n"
     "  protection HEX HEX                          other primary and secondary protection\n"
     "\n"
-    "FILE - is standard input, OUT - standard output. Places count from 0. HEX is pairs\n"
-    "of hexadecimal digits, or - for no bytes. NAME is a setting:\n";
+    "FILE or RECIPE - is standard input, after -o standard output. Places count from 0.\n"
+    "HEX is pairs of hexadecimal digits, or - for no bytes. NAME is a setting:\n";
 
 static const char STATUS[] =
     "VALUE is a number, or absent. from=bare or from=profile names all ten at once.\n"
@@ -40,9 +43,13 @@ static const char STATUS[] =
 
 enum { COMMAND_COUNT = sizeof COMMANDS / sizeof *COMMANDS };
 
-static void print_usage(FILE *out, const struct command *command)
+/* A command that takes words of several forms has a row of the table for each. */
+static void print_usage(FILE *out, const char *name)
 {
-    fprintf(out, "usage: emdf %s %s\n", command->name, command->usage);
+    size_t i;
+    for (i = 0; i < COMMAND_COUNT; i++)
+        if (!strcmp(name, COMMANDS[i].name))
+            fprintf(out, "usage: emdf %s %s\n", name, COMMANDS[i].usage);
 }
 
 int usage_error(const char *name, const char *format, ...)
@@ -50,16 +57,13 @@ int usage_error(const char *name, const char *format, ...)
     char text[201]; /* a word may be long */
     va_list values;
     int length;
-    size_t i;
     va_start(values, format);
     length = vsnprintf(text, sizeof text, format, values);
     va_end(values);
     fprintf(stderr, "emdf: %s: ", name);
     print_text(stderr, text);
     fputs(length >= (int)sizeof text ? "..\n" : "\n", stderr);
-    for (i = 0; i < COMMAND_COUNT; i++)
-        if (!strcmp(name, COMMANDS[i].name))
-            print_usage(stderr, &COMMANDS[i]);
+    print_usage(stderr, name);
     return FAILED;
 }
 
@@ -80,17 +84,17 @@ int main(int count, char **words)
 {
     size_t i;
     if (count < 2) {
-        fputs("emdf: no command is named\nusage: emdf info|verdict|body|blank|edit ..; emdf --help says more\n", stderr);
+        fputs("emdf: no command is named\nusage: emdf info|verdict|body|blank|edit|recipe ..; emdf --help says more\n", stderr);
         return FAILED;
     }
     if (!strcmp(words[1], "--help") || !strcmp(words[1], "help"))
         return finish_output(print_help());
     for (i = 0; i < COMMAND_COUNT; i++)
         if (!strcmp(words[1], COMMANDS[i].name))
-            return finish_output(words[2] && !strcmp(words[2], "--help") ? (print_usage(stdout, &COMMANDS[i]), (int)DONE)
+            return finish_output(words[2] && !strcmp(words[2], "--help") ? (print_usage(stdout, words[1]), (int)DONE)
                                                                       : COMMANDS[i].run(words + 2));
     fputs("emdf: no command is called ", stderr);
     print_text(stderr, words[1]);
-    fputs("\nusage: emdf info|verdict|body|blank|edit ..; emdf --help says more\n", stderr);
+    fputs("\nusage: emdf info|verdict|body|blank|edit|recipe ..; emdf --help says more\n", stderr);
     return FAILED;
 }

@@ -32,8 +32,8 @@ int complain(const char *about, const char *format, ...);
 const char *input_title(const char *name);
 
 /* Reads all of a file, of standard input for "-", into at most room bytes. Answers 0 and complains where it can't be read, and
-   where it is longer, unless it may be cut. */
-int load_file(const char *name, uint8_t *bytes, size_t room, int may_be_cut, size_t *length);
+   where it fills the room: limit is what is said of the length before that. Where limit is NULL it may be cut. */
+int load_file(const char *name, uint8_t *bytes, size_t room, const char *limit, size_t *length);
 
 /* Writes bytes to standard output for "-", else to a file that is complete and on disk before it takes the name. */
 int save_file(const char *name, const uint8_t *bytes, size_t length);
@@ -52,10 +52,16 @@ void print_json_text(const char *text);
 /* A number and a noun: "1 byte", "2 bytes". */
 void print_count(uint64_t n, const char *noun);
 
-void print_hex(const uint8_t *bytes, size_t length);
+void print_hex(FILE *out, const uint8_t *bytes, size_t length);
 
 /* "15: the profile is not met (marks 0x0023e8, deviations 7)". */
 void print_refusal(FILE *out, uint32_t number, uint64_t first, uint64_t second);
+
+/* ": refused, 16: no such place" and a hint on standard error: the end of a message. Answers REFUSED. */
+int end_refused(uint32_t number, const uint8_t *answer, const char *hint);
+
+/* "emdf: ABOUT: refused, .." on standard error. Answers REFUSED. */
+int say_refused(const char *about, uint32_t number, const uint8_t *answer, const char *hint);
 
 /* The members "number", "words" and "figures" of an object of JSON. */
 void print_json_refusal(uint32_t number, uint64_t first, uint64_t second);
@@ -118,6 +124,7 @@ int command_verdict(char **words);
 int command_body(char **words);
 int command_blank(char **words);
 int command_edit(char **words);
+int command_recipe(char **words);
 
 /* "emdf: COMMAND: ..." and the command's usage. Answers FAILED. */
 int usage_error(const char *command, const char *format, ...);
@@ -146,5 +153,60 @@ int parse_hex(const char *text, struct octets *octets);
 
 /* The value of a word "name=value", or NULL where it has another name. */
 const char *value_of(const char *word, const char *name);
+
+/* ---- edit.c */
+
+struct edit;
+
+/* The carrier so far, and where the next one goes. */
+struct carriers {
+    struct input source;
+    uint8_t destination[CARRIER_MOST];
+    uint8_t answer[EMDF_EDIT_ANSWER_BYTES];
+};
+
+struct kind {
+    const char *name;
+    unsigned in_recipe; /* its number there; 0 where a recipe has none */
+    int (*parse)(struct edit *edit);
+    uint32_t (*run)(struct carriers *c, const struct edit *edit);
+};
+
+struct edit {
+    const char *command; /* whose words they are */
+    const struct kind *kind;
+    char **words; /* its name, and what follows it up to the next edit; NULL where it comes from a recipe */
+    size_t count;
+    uint64_t place, id; /* id: of a payload or a key */
+    const uint8_t *base; /* the settings that it starts from; NULL: those of the payload */
+    uint8_t values[EMDF_SETTINGS_BYTES]; /* where is_named */
+    int is_named[EMDF_SETTING_COUNT];
+    struct octets octets, secondary; /* a body, which is the file's where it comes from a recipe; or the protections */
+};
+
+struct edits {
+    struct edit *list; /* to be freed by free_edits */
+    size_t count;
+};
+
+/* NULL where no edit is called so, or has this number in a recipe. */
+const struct kind *find_kind(const char *name);
+const struct kind *find_recipe_kind(unsigned number);
+
+/* Takes words, of which there are some, as edits for a command. Answers 0 after a complaint. */
+int parse_edits(const char *command, char **words, struct edits *edits);
+void free_edits(struct edits *edits);
+
+/* An edit that a recipe may hold, in the words that are parsed; of a body's octets at most so many, and then "..". */
+void print_edit(FILE *out, const struct edit *edit, size_t octets_shown);
+
+/* Makes an edit, and the carrier that it writes the next one's source. Answers the refusal's number, or 0. */
+uint32_t run_edit(struct carriers *c, const struct edit *edit);
+
+/* Whether a refusal comes from reading the source, so that every edit of it is refused so. */
+int is_of_source(uint32_t number);
+
+/* Says of the source or of the i-th edit, counted from 0, what run_edit answered. Answers REFUSED. */
+int say_edit_refused(const struct carriers *c, const struct edit *edit, size_t i, uint32_t number);
 
 #endif

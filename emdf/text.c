@@ -1,4 +1,4 @@
-/* Words, figures and names on standard output. */
+/* Words, figures and names in what is printed. */
 #include <inttypes.h>
 
 #include "program.h"
@@ -26,11 +26,11 @@ void print_count(uint64_t n, const char *noun)
     printf("%" PRIu64 " %s%s", n, noun, n == 1 ? "" : "s");
 }
 
-void print_hex(const uint8_t *bytes, size_t length)
+void print_hex(FILE *out, const uint8_t *bytes, size_t length)
 {
     size_t i;
     for (i = 0; i < length; i++)
-        printf("%02x", (unsigned)bytes[i]);
+        fprintf(out, "%02x", (unsigned)bytes[i]);
 }
 
 /* ---- refusals */
@@ -50,6 +50,21 @@ void print_refusal(FILE *out, uint32_t number, uint64_t first, uint64_t second)
     }
     if (i)
         fputc(')', out);
+}
+
+int end_refused(uint32_t number, const uint8_t *answer, const char *hint)
+{
+    fputs(": refused, ", stderr);
+    print_refusal(stderr, number, emdf_word(answer, 0), emdf_word(answer, 1));
+    fprintf(stderr, "%s\n", hint);
+    return REFUSED;
+}
+
+int say_refused(const char *about, uint32_t number, const uint8_t *answer, const char *hint)
+{
+    fputs("emdf: ", stderr);
+    print_text(stderr, about);
+    return end_refused(number, answer, hint);
 }
 
 void print_json_refusal(uint32_t number, uint64_t first, uint64_t second)

@@ -4,7 +4,7 @@
    through it. An answer is never NULL; it has the number of bytes that its parameter says.
 
    What a call only reads (const uint8_t *) may overlap: a body may lie in the source, and two slices may be the same. What a call
-   writes (answer, table, scratch, destination) must not overlap anything else that is lent to the same call.
+   writes (answer, table, scratch, destination, first, second) must not overlap anything else that is lent to the same call.
 
    A call asks its questions in the order in which its comment has their numbers. The first "no" is the refusal: the call returns
    the number, and writes its figures to the answer. */
@@ -49,7 +49,9 @@ enum {
     EMDF_SCRATCH_TOO_SHORT = 19,  /* of emdf_move_body: needed (bytes) */
     EMDF_DESTINATION_TOO_SHORT = 19, /* of an edit: needed (bytes) */
     EMDF_TRAILING_BYTES = 20,     /* of an edit: the source is more than one carrier */
-    EMDF_TRUNCATED_HEADER = 21    /* fewer bytes than a header has: 4, available (bytes) */
+    EMDF_TRUNCATED_HEADER = 21,   /* fewer bytes than a header has: 4, available (bytes) */
+    EMDF_BROKEN_CHAIN = 22,       /* of a recipe: no 4 bytes, an index that leads nowhere, or a record outside the file */
+    EMDF_INVALID_RECORD = 23      /* of a recipe: a record whose kind, zero byte, length or data are not as they should be */
 };
 
 /* The most bytes that a carrier has, and the most payloads: buffers of these sizes are long enough for every carrier. */
@@ -212,6 +214,38 @@ enum {
     EMDF_SETTINGS_PROCESSING_ALLOWED = 17
 };
 
+/* A recipe on file: first index and record count, 2 bytes each, then records, numbered from 1. A record is the next index
+   (2 bytes), the kind (1), a zero byte, the place (4), the offset of its data in the file (4) and their length (4). All numbers
+   are big-endian. Index 0 ends the chain. A key's data are its 8 bytes. */
+#define EMDF_RECIPE_HEAD_BYTES 4
+#define EMDF_RECIPE_RECORD_BYTES 16
+enum {
+    EMDF_RECIPE_BODY = 1,
+    EMDF_RECIPE_DROP = 2,
+    EMDF_RECIPE_KEY = 3
+};
+
+/* The size in bytes of emdf_check_recipe's answer, and where the number of an accepted one stands. */
+#define EMDF_CHECK_ANSWER_BYTES 16
+enum {
+    EMDF_RECIPE_EDITS = 0 /* how many edits the recipe has; number 1 is 0 */
+};
+
+/* The size in bytes of emdf_run_recipe's answer, and where its three numbers stand. */
+#define EMDF_RUN_ANSWER_BYTES 24
+enum {
+    EMDF_HOLDER = 0,       /* where the carrier now is */
+    EMDF_HELD_LENGTH = 1,  /* its length in bytes; in the source, the source's */
+    EMDF_REFUSED_EDITS = 2 /* how many edits were refused */
+};
+
+/* The slices that may hold the carrier after a recipe. */
+enum {
+    EMDF_IN_SOURCE = 0,
+    EMDF_IN_FIRST = 1,
+    EMDF_IN_SECOND = 2
+};
+
 /* The i-th number of an answer, a row or settings: 8 bytes, the most significant first. */
 static inline uint64_t emdf_word(const uint8_t *answer, size_t i)
 {
@@ -296,6 +330,16 @@ uint32_t emdf_edit_protection(const uint8_t *source, size_t source_length, const
 uint32_t emdf_blank(uint64_t key, const uint8_t *primary, size_t primary_length, const uint8_t *secondary,
                     size_t secondary_length, uint8_t *destination, size_t destination_length,
                     uint8_t answer[EMDF_EDIT_ANSWER_BYTES]);
+
+/* Whether a file is a recipe, and how many edits it has. Asked: 22 of its head; then of each record along the chain 22, 23. */
+uint32_t emdf_check_recipe(const uint8_t *recipe, size_t recipe_length, uint8_t answer[EMDF_CHECK_ANSWER_BYTES]);
+
+/* Runs the edits of a recipe in their order, each on the carrier that the last accepted one wrote, the first on the source, and
+   into the buffer that does not hold that carrier: the first buffer until an edit is accepted, then by turns. Each edit asks what
+   it asks by itself, and a refused one is counted and changes nothing. Asked before any edit: what emdf_check_recipe asks; where
+   that refuses, both buffers stay as they were. */
+uint32_t emdf_run_recipe(const uint8_t *source, size_t source_length, const uint8_t *recipe, size_t recipe_length, uint8_t *first,
+                         size_t first_length, uint8_t *second, size_t second_length, uint8_t answer[EMDF_RUN_ANSWER_BYTES]);
 
 #ifdef __cplusplus
 }

@@ -34,6 +34,8 @@ static const struct refusal REFUSALS[] = {
     {"the destination is too short", {"needed", NULL}},
     {"bytes after the carrier", {NULL, NULL}},
     {"fewer bytes than a header has", {"needed", "available"}},
+    {"the recipe's chain is broken", {NULL, NULL}},
+    {"a record of the recipe is not of the form", {NULL, NULL}},
 };
 
 static const struct refusal UNLISTED = {"a refusal that has no words here", {"first", "second"}};

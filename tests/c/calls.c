@@ -6,6 +6,7 @@
 #define CUT (BIT(1) | BIT(21))
 #define READING (BIT(0) | BIT(2) | CUT | FIELDS_REFUSED)
 #define EDIT (READING | BIT(19) | BIT(20))
+#define RECIPE (BIT(0) | BIT(22) | BIT(23))
 
 /* What is read is writable, and a drop shortens: so 17 and 18 aren't everybody's. */
 const struct facts FACTS[CALLS] = {
@@ -27,6 +28,8 @@ const struct facts FACTS[CALLS] = {
     {"emdf_edit_key", EMDF_EDIT_ANSWER_BYTES, EDIT | BIT(18), 1, 1},
     {"emdf_edit_protection", EMDF_EDIT_ANSWER_BYTES, EDIT | BIT(17) | BIT(18), 1, 1},
     {"emdf_blank", EMDF_EDIT_ANSWER_BYTES, BIT(0) | BIT(17) | BIT(19), 1, 0},
+    {"emdf_check_recipe", EMDF_CHECK_ANSWER_BYTES, RECIPE, 0, 0},
+    {"emdf_run_recipe", EMDF_RUN_ANSWER_BYTES, RECIPE, 2, 0},
 };
 
 static uint32_t bit_call(const struct request *r)
@@ -94,11 +97,33 @@ static uint32_t edit_call(const struct request *r)
     }
 }
 
+static uint32_t recipe_call(const struct request *r)
+{
+    const struct slice *s = &r->source, *b = &r->body;
+
+    if (r->call == CHECK_RECIPE)
+        return emdf_check_recipe(b->bytes, b->length, r->answer);
+    return emdf_run_recipe(s->bytes, s->length, b->bytes, b->length, r->room, r->room_length, r->second, r->second_length,
+                           r->answer);
+}
+
+int is_edit(enum call call)
+{
+    return call >= EDIT_BODY && call <= BLANK;
+}
+
+int is_recipe(enum call call)
+{
+    return call == CHECK_RECIPE || call == RUN_RECIPE;
+}
+
 uint32_t make_call(const struct request *r)
 {
     if (r->call <= VARIABLE_BITS)
         return bit_call(r);
-    return r->call <= VERDICT ? carrier_call(r) : edit_call(r);
+    if (r->call <= VERDICT)
+        return carrier_call(r);
+    return is_edit(r->call) ? edit_call(r) : recipe_call(r);
 }
 
 uint32_t short_number(enum call call)

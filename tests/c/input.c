@@ -2,18 +2,14 @@
 
 #include <string.h>
 
+#include "recipes.h"
 #include "seeds.h"
 
 const struct reading UNREAD = {EMDF_TRUNCATED_HEADER, {0}, NULL};
 
 static uint64_t number_at(const struct input *in, size_t at, size_t bytes)
 {
-    uint64_t v = 0;
-    size_t i;
-
-    for (i = 0; i < bytes; i++)
-        v = v << 8 | in->bytes[at + i];
-    return v;
+    return number_of(in->bytes + at, bytes);
 }
 
 const uint8_t *row_of(const struct reading *own, size_t place)
@@ -138,6 +134,38 @@ static uint8_t around(uint8_t byte, uint8_t bound)
     return byte < 224 ? byte % bound : byte;
 }
 
+enum { SPLIT_BYTES = AT_OVERLAP - AT_SPLIT };
+
+size_t split_of(const uint8_t *input, size_t length)
+{
+    size_t split = (size_t)number_of(input + AT_SPLIT, SPLIT_BYTES), tail = length - HEAD;
+
+    return split < tail ? split : tail;
+}
+
+void put_split(uint8_t *input, size_t split)
+{
+    put_number(input + AT_SPLIT, SPLIT_BYTES, split);
+}
+
+/* Mostly what lies before the recipe; else the recipe lies in the source, or is all of it. */
+size_t source_length(const struct input *in)
+{
+    if (!is_recipe(in->bytes[AT_CALL] % CALLS) || in->bytes[AT_OVERLAP] % 8 == 1)
+        return in->length - HEAD;
+    return split_of(in->bytes, in->length);
+}
+
+static struct slice choose_recipe(const struct input *in)
+{
+    size_t split = split_of(in->bytes, in->length);
+    struct slice chosen;
+
+    chosen.bytes = in->bytes + HEAD + split;
+    chosen.length = in->length - HEAD - split;
+    return chosen;
+}
+
 struct request request_of(const struct input *in, const struct reading *own, uint8_t *body, uint8_t *settings)
 {
     struct request r;
@@ -146,7 +174,7 @@ struct request request_of(const struct input *in, const struct reading *own, uin
     memset(&r, 0, sizeof r);
     r.call = in->bytes[AT_CALL] % CALLS;
     r.source.bytes = in->bytes + HEAD;
-    r.source.length = in->length - HEAD;
+    r.source.length = source_length(in);
     r.number = number_at(in, AT_NUMBER, 8);
     r.position = bits_at(in, AT_POSITION);
     r.end = bits_at(in, AT_END_BIT);
@@ -161,18 +189,18 @@ struct request request_of(const struct input *in, const struct reading *own, uin
         r.body.length = protection_length(in->bytes[AT_PRIMARY_LENGTH]);
         r.settings.bytes = in->bytes + AT_SECONDARY;
         r.settings.length = protection_length(in->bytes[AT_SECONDARY_LENGTH]);
-    } else if (r.call >= EDIT_BODY) {
+    } else if (is_edit(r.call)) {
         r.body = choose_body(in, row, body);
         r.settings = choose_settings(in, row, settings);
+    } else if (is_recipe(r.call)) {
+        r.body = choose_recipe(in);
     }
     return r;
 }
 
-size_t room_of(const struct input *in, size_t needed)
+static size_t choose_room(uint8_t kind, size_t more, size_t needed)
 {
-    size_t more = in->bytes[AT_ROOM_MORE];
-
-    switch (in->bytes[AT_ROOM] % 6) {
+    switch (kind % 6) {
     case 0:
         return needed;
     case 1:
@@ -184,4 +212,14 @@ size_t room_of(const struct input *in, size_t needed)
     default:
         return needed + more;
     }
+}
+
+size_t room_of(const struct input *in, size_t needed)
+{
+    return choose_room(in->bytes[AT_ROOM], in->bytes[AT_ROOM_MORE], needed);
+}
+
+size_t second_room_of(const struct input *in, size_t needed)
+{
+    return choose_room(in->bytes[AT_SECOND_ROOM], in->bytes[AT_SECOND_MORE], needed);
 }

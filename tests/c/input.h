@@ -1,4 +1,5 @@
-/* What an input says: its first bytes choose the call and its arguments, and the rest is the source. */
+/* What an input says: its first bytes choose the call and its arguments, and the rest is the source. For a call on a recipe the
+   rest is the source and the recipe. */
 #ifndef INPUT_H
 #define INPUT_H
 
@@ -13,7 +14,8 @@ enum {
     AT_PRESENT = 36, AT_VALUES = 37, AT_OFFSET = 38, AT_DURATION = 40, AT_GROUP = 44, AT_PRIORITY = 52, AT_PROCESSING = 53,
     AT_SETTINGS_LENGTH = 54, AT_ROOM_MORE = 55,
     AT_PRIMARY = 56, AT_SECONDARY = 74,
-    HEAD = 92
+    AT_SPLIT = 92, AT_OVERLAP = 95, AT_SECOND_ROOM = 96, AT_SECOND_MORE = 97,
+    HEAD = 98
 };
 
 enum {
@@ -38,11 +40,19 @@ struct reading {
 /* Nothing is known of the source. */
 extern const struct reading UNREAD;
 
+/* Where the recipe starts in the rest of an input, for a call on one. */
+size_t split_of(const uint8_t *input, size_t length);
+void put_split(uint8_t *input, size_t split);
+
+/* How many bytes of the rest are the source. */
+size_t source_length(const struct input *in);
+
 /* The request of an input, without its room and answer. What isn't in the input itself is put into the two buffers. */
 struct request request_of(const struct input *in, const struct reading *own, uint8_t *body, uint8_t *settings);
 
-/* How long the room has to be that the input asks for, where `needed` bytes are needed. */
+/* How long the room has to be that the input asks for, where `needed` bytes are needed; and so the second one. */
 size_t room_of(const struct input *in, size_t needed);
+size_t second_room_of(const struct input *in, size_t needed);
 
 /* A payload of a reading: its settings, and its body with the bytes that it takes. */
 const uint8_t *row_of(const struct reading *own, size_t place);

@@ -4,6 +4,7 @@
 #include <string.h>
 
 #include "lent.h"
+#include "recipes.h"
 #include "seeds.h"
 
 uint64_t draw(struct random *random)
@@ -15,7 +16,7 @@ uint64_t draw(struct random *random)
     return z ^ z >> 31;
 }
 
-static size_t draw_below(struct random *random, size_t n)
+size_t draw_below(struct random *random, size_t n)
 {
     return n > 0 ? (size_t)(draw(random) % n) : 0;
 }
@@ -74,6 +75,7 @@ static void plain_input(struct input *in, enum call call, const uint8_t *carrier
     in->bytes[AT_CALL] = (uint8_t)call;
     memcpy(in->bytes + HEAD, carrier, length);
     in->length = HEAD + length;
+    put_split(in->bytes, length);
 }
 
 static void large_input(struct input *in, enum call call, const uint8_t *carrier, size_t length)
@@ -95,12 +97,88 @@ static void large_input(struct input *in, enum call call, const uint8_t *carrier
     in->bytes[AT_OFFSET] = 7;
 }
 
+/* What the inputs of a recipe are made with. */
+struct recipe_inputs {
+    const uint8_t *carrier;
+    size_t length;
+    input_taker take;
+    void *with;
+};
+
+/* Many edits of a long carrier take time, and reach no more than few of them. */
+enum { COPIED_MOST = 400000 };
+
+/* The recipe after the carrier; what chooses the two buffers. */
+static void take_recipe(const struct recipe_inputs *s, enum call call, uint8_t rooms, const uint8_t *recipe, size_t length)
+{
+    static struct input in;
+
+    if (s->length * records_in(length) > COPIED_MOST)
+        return;
+    plain_input(&in, call, s->carrier, s->length);
+    in.bytes[AT_ROOM] = in.bytes[AT_SECOND_ROOM] = rooms;
+    memcpy(in.bytes + in.length, recipe, length);
+    in.length += length;
+    s->take(s->with, &in);
+}
+
+static void take_check(void *with, const uint8_t *recipe, size_t length)
+{
+    take_recipe(with, CHECK_RECIPE, 0, recipe, length);
+}
+
+/* With buffers that are just long enough. */
+static void take_run(void *with, const uint8_t *recipe, size_t length)
+{
+    take_recipe(with, RUN_RECIPE, 0, recipe, length);
+}
+
+/* With buffers that lack a byte. */
+static void take_short_run(void *with, const uint8_t *recipe, size_t length)
+{
+    take_recipe(with, RUN_RECIPE, 1, recipe, length);
+}
+
+/* The recipe lies in the source, as its body. */
+static void take_wrapped(void *with, const uint8_t *recipe, size_t length)
+{
+    static struct input in;
+    static uint8_t carrier[EMDF_CARRIER_MOST];
+    const struct recipe_inputs *s = with;
+
+    if (length > WRAPPED_MOST)
+        return;
+    plain_input(&in, RUN_RECIPE, carrier, wrapped_carrier(carrier, recipe, length));
+    put_split(in.bytes, WRAPPED_AT);
+    in.bytes[AT_OVERLAP] = 1;
+    s->take(s->with, &in);
+}
+
+/* Of a blank carrier. */
+enum { SHORTEST = 7 };
+
+/* Without a carrier every edit is refused. What is asked of a recipe doesn't depend on the carrier: the shortest does for it. */
+static void each_recipe(const uint8_t *carrier, size_t length, input_taker take, void *with)
+{
+    struct recipe_inputs s = {carrier, length, take, with};
+
+    run_recipes(take_run, &s);
+    if (length > 0)
+        run_recipes(take_short_run, &s);
+    if (length != SHORTEST)
+        return;
+    refused_recipes(take_run, &s);
+    run_recipes(take_check, &s);
+    refused_recipes(take_check, &s);
+    run_recipes(take_wrapped, &s);
+}
+
 void each_input(const uint8_t *carrier, size_t length, input_taker take, void *with)
 {
     static struct input in;
     unsigned call;
 
-    for (call = 0; call < CALLS; call++) {
+    for (call = 0; call < CHECK_RECIPE; call++) {
         plain_input(&in, call, carrier, length);
         take(with, &in);
         large_input(&in, call, carrier, length);
@@ -109,6 +187,7 @@ void each_input(const uint8_t *carrier, size_t length, input_taker take, void *w
         in.bytes[AT_BODY_KIND] = 3;
         take(with, &in);
     }
+    each_recipe(carrier, length, take, with);
 }
 
 struct seeding {
@@ -182,12 +261,26 @@ static void change_number(struct input *in, struct random *random)
     }
 }
 
+/* Where the recipe starts, in the whole input. */
+static size_t recipe_start(const struct input *in)
+{
+    return HEAD + split_of(in->bytes, in->length);
+}
+
+static void start_recipe(struct input *in, size_t at)
+{
+    put_split(in->bytes, at - HEAD);
+}
+
 static void insert_bytes(struct input *in, struct random *random)
 {
     size_t at = HEAD + draw_below(random, in->length - HEAD + 1), n = 1 + draw_below(random, 8), i;
+    size_t recipe = recipe_start(in);
 
     if (in->length + n > INPUT_MOST)
         return;
+    if (at <= recipe)
+        start_recipe(in, recipe + n);
     memmove(in->bytes + at + n, in->bytes + at, in->length - at);
     for (i = 0; i < n; i++)
         in->bytes[at + i] = (uint8_t)(draw(random) % 2 ? draw(random) : 0);
@@ -197,25 +290,36 @@ static void insert_bytes(struct input *in, struct random *random)
 static void delete_bytes(struct input *in, struct random *random)
 {
     size_t tail = in->length - HEAD, n = 1 + draw_below(random, tail / 4 + 1), at;
+    size_t recipe = recipe_start(in);
 
     if (n > tail)
         return;
     at = HEAD + draw_below(random, tail - n + 1);
+    if (at < recipe)
+        start_recipe(in, at + n < recipe ? recipe - n : at);
     memmove(in->bytes + at, in->bytes + at + n, in->length - at - n);
     in->length -= n;
+}
+
+/* The end of what a byte belongs to: the carrier, or the recipe after it. */
+static size_t end_of_part(const struct input *in, size_t at)
+{
+    size_t recipe = recipe_start(in);
+
+    return at < recipe ? recipe : in->length;
 }
 
 /* A carrier's fields stand at bits, so what follows has to move by bits too. */
 static void insert_bit(struct input *in, struct random *random)
 {
-    size_t at = HEAD + draw_below(random, in->length - HEAD), i;
+    size_t at = HEAD + draw_below(random, in->length - HEAD), end = end_of_part(in, at), i;
     unsigned low = (unsigned)draw_below(random, 8), carry, mask = (1u << low) - 1;
 
     if (at >= in->length)
         return;
     carry = in->bytes[at] & 1;
     in->bytes[at] = (uint8_t)((in->bytes[at] & ~mask & 255) | (in->bytes[at] & mask) >> 1 | (draw(random) & 1) << low);
-    for (i = at + 1; i < in->length; i++) {
+    for (i = at + 1; i < end; i++) {
         unsigned out = in->bytes[i] & 1;
         in->bytes[i] = (uint8_t)(carry << 7 | in->bytes[i] >> 1);
         carry = out;
@@ -224,11 +328,11 @@ static void insert_bit(struct input *in, struct random *random)
 
 static void delete_bit(struct input *in, struct random *random)
 {
-    size_t at = HEAD + draw_below(random, in->length - HEAD), i;
+    size_t at = HEAD + draw_below(random, in->length - HEAD), end = end_of_part(in, at), i;
     unsigned mask = (2u << draw_below(random, 8)) - 1;
 
-    for (i = at; i < in->length; i++) {
-        unsigned next = i + 1 < in->length ? in->bytes[i + 1] >> 7 : 0;
+    for (i = at; i < end; i++) {
+        unsigned next = i + 1 < end ? in->bytes[i + 1] >> 7 : 0;
         in->bytes[i] = (uint8_t)((in->bytes[i] & ~mask & 255) | ((in->bytes[i] << 1 | next) & mask));
         mask = 255;
     }
@@ -239,10 +343,13 @@ static void splice(struct input *in, struct random *random, const struct pool *c
 {
     const struct slice *other = &corpus->items[draw_below(random, corpus->count)];
     size_t at = HEAD + draw_below(random, in->length - HEAD + 1), from = HEAD + draw_below(random, other->length - HEAD + 1);
-    size_t n = other->length - from;
+    size_t n = other->length - from, recipe = HEAD + split_of(other->bytes, other->length);
 
     if (at + n > INPUT_MOST)
         return;
+    /* The other one's recipe comes along, unless the own one is cut. */
+    if (at <= recipe_start(in))
+        start_recipe(in, from <= recipe ? at + recipe - from : at);
     memcpy(in->bytes + at, other->bytes + from, n);
     in->length = at + n;
 }
@@ -250,11 +357,11 @@ static void splice(struct input *in, struct random *random, const struct pool *c
 /* The header says what is there, or nearly. */
 static void mend_header(struct input *in, struct random *random)
 {
-    size_t tail = in->length - HEAD, declared;
+    size_t length = source_length(in), declared;
 
-    if (tail < 4)
+    if (length < 4)
         return;
-    declared = tail - 4 - (draw(random) % 16 == 0 ? draw_below(random, 3) : 0);
+    declared = length - 4 - (draw(random) % 16 == 0 ? draw_below(random, 3) : 0);
     in->bytes[HEAD] = 0x58;
     in->bytes[HEAD + 1] = 0x38;
     in->bytes[HEAD + 2] = (uint8_t)(declared >> 8);
@@ -263,6 +370,10 @@ static void mend_header(struct input *in, struct random *random)
 
 static void change(struct input *in, struct random *random, const struct pool *corpus)
 {
+    if (is_recipe(in->bytes[AT_CALL] % CALLS) && draw(random) % 2 == 0) {
+        change_recipe(in, random);
+        return;
+    }
     switch (draw_below(random, 12)) {
     case 0:
     case 1:
@@ -310,6 +421,19 @@ static const struct slice *choose(const struct pool *pool, struct random *random
     return c;
 }
 
+/* Another carrier, before the same recipe where there is one. */
+static void put_carrier(struct input *in, const struct slice *carrier)
+{
+    size_t recipe = recipe_start(in), n = in->length - recipe;
+
+    if (!is_recipe(in->bytes[AT_CALL] % CALLS) || carrier->length + n > SOURCE_MOST)
+        n = 0;
+    memmove(in->bytes + HEAD + carrier->length, in->bytes + recipe, n);
+    memcpy(in->bytes + HEAD, carrier->bytes, carrier->length);
+    put_split(in->bytes, carrier->length);
+    in->length = HEAD + carrier->length + n;
+}
+
 void mutate(struct input *in, struct corpus *corpus)
 {
     struct random *random = &corpus->random;
@@ -318,11 +442,8 @@ void mutate(struct input *in, struct corpus *corpus)
 
     memcpy(in->bytes, base->bytes, base->length);
     in->length = base->length;
-    if (corpus->carriers.count > 0 && draw(random) % 4 == 0) {
-        const struct slice *c = choose(&corpus->carriers, random);
-        memcpy(in->bytes + HEAD, c->bytes, c->length);
-        in->length = HEAD + c->length;
-    }
+    if (corpus->carriers.count > 0 && draw(random) % 4 == 0)
+        put_carrier(in, choose(&corpus->carriers, random));
     while (n-- > 0)
         change(in, random, &corpus->inputs);
     if (draw(random) % 4 != 0)

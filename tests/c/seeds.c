@@ -49,22 +49,31 @@ void seed_settings(uint8_t *settings, unsigned kind)
         put_wanted(settings);
 }
 
-/* A payload more at the end; a carrier that doesn't take it stays. */
-static size_t append(uint8_t *carrier, size_t length, uint64_t place, uint64_t id, unsigned kind, size_t body_length)
+/* A payload more; a carrier that doesn't take it stays. */
+static size_t insert(uint8_t *carrier, size_t length, uint64_t place, uint64_t id, unsigned kind, const uint8_t *body,
+                     size_t body_length)
 {
-    static uint8_t next[EMDF_CARRIER_MOST], body[EMDF_CARRIER_MOST];
+    static uint8_t next[EMDF_CARRIER_MOST];
     uint8_t settings[EMDF_SETTINGS_BYTES], answer[EMDF_EDIT_ANSWER_BYTES];
-    size_t i;
 
     seed_settings(settings, kind);
-    for (i = 0; i < body_length; i++)
-        body[i] = (uint8_t)(i * 7 + place);
     if (emdf_edit_insert(carrier, length, (size_t)place, id, settings, sizeof settings, body, body_length, next, sizeof next,
                          answer) != EMDF_ACCEPTED)
         return length;
     length = (size_t)emdf_word(answer, EMDF_WRITTEN_LENGTH);
     memcpy(carrier, next, length);
     return length;
+}
+
+/* At the end, and with some body. */
+static size_t append(uint8_t *carrier, size_t length, uint64_t place, uint64_t id, unsigned kind, size_t body_length)
+{
+    static uint8_t body[EMDF_CARRIER_MOST];
+    size_t i;
+
+    for (i = 0; i < body_length; i++)
+        body[i] = (uint8_t)(i * 7 + place);
+    return insert(carrier, length, place, id, kind, body, body_length);
 }
 
 static size_t blank(uint8_t *carrier, uint64_t key, size_t primary, size_t secondary)
@@ -85,6 +94,12 @@ size_t seed_carrier(uint8_t *carrier, unsigned payloads, size_t body_length, int
     for (k = 0; k < payloads; k++)
         length = append(carrier, length, k, is_wide ? UINT64_MAX - k : 1 + k % 40, is_wide ? 2 : k % 4, body_length);
     return length;
+}
+
+/* With settings of 5 bits and a size of one group the body starts on a byte. */
+size_t wrapped_carrier(uint8_t *carrier, const uint8_t *body, size_t body_length)
+{
+    return insert(carrier, blank(carrier, 0, 1, 0), 0, 1, 1, body, body_length);
 }
 
 static const struct {

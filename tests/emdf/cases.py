@@ -6,12 +6,26 @@ import sys
 import carriers
 import editing
 import errors
+import recipes
 import said
 import usage
 from harness import try_case
 
 # Kinds of which each case has its own reason.
-KINDS = (editing.by_hand, editing.places, editing.partly, editing.spellings, editing.lengths, said.by_hand)
+KINDS = (
+    editing.by_hand,
+    editing.places,
+    editing.partly,
+    editing.spellings,
+    editing.lengths,
+    said.by_hand,
+    recipes.by_hand,
+    recipes.wrong,
+    recipes.allowed,
+    recipes.lengths,
+    recipes.spellings,
+    recipes.of_files,
+)
 
 
 def small_bodies():
@@ -36,13 +50,27 @@ MANY = (
     editing.random_edits,
     editing.random_changes,
     editing.random_chains,
+    recipes.unread,
+    recipes.makes,
+    recipes.shows,
+    recipes.applies,
     usage.cases,
     small_bodies,
     random_bodies,
     unreads_alone,
 )
 # Of which a run of few takes one, as of each of the others above.
-FEW = (editing.readings, editing.random_changes, editing.random_chains, usage.of_settings, random_bodies)
+FEW = (
+    editing.readings,
+    editing.random_changes,
+    editing.random_chains,
+    recipes.makes,
+    recipes.shows,
+    recipes.applies,
+    usage.of_settings,
+    random_bodies,
+)
+ROUNDS = {"whole": 60, "thinned": 3, "few": 1}
 
 
 def single_cases(size):
@@ -54,6 +82,8 @@ def single_cases(size):
         yield from kind()
     for kind in MANY:
         yield from list(kind())[:: 1 if size == "whole" else ONE_IN]
+    if size == "whole":
+        yield from recipes.longest()
 
 
 def asked(size):
@@ -70,6 +100,7 @@ def asked(size):
 def results(command, size):
     for one in single_cases(size):
         yield (one.name,) + try_case(command, one)
+    yield from recipes.rounds(command, ROUNDS[size])
     for_info, for_verdict = asked(size)
     yield from said.info(command, for_info, size == "few")
     yield from said.verdicts(command, for_verdict, size == "few")

@@ -17,14 +17,27 @@ from harness import case, fill, run, standing, try_case
 
 NOBODY = 65534
 TOO_LONG = ": longer than 65539 bytes, which no carrier is\n"
-# Each command that reads a file, and each that writes one: what it writes when its FILE is B.
-READERS = (["info"], ["verdict"], ["body", "0"], ["edit", "-o", "out", "drop", "0"])
-WRITERS = (("blank", ["blank", "primary=a5"], A), ("body", ["body", "in", "0"], b"\xc3"), ("edit", ["edit", "in", "drop", "0"], A))
+# Each command that reads a carrier, and each that writes a file: what it writes when its FILE is B.
+READERS = (
+    ["info", "FILE"],
+    ["verdict", "FILE"],
+    ["body", "FILE", "0"],
+    ["edit", "FILE", "-o", "out", "drop", "0"],
+    ["recipe", "apply", "FILE", "recipe", "-o", "out"],
+)
+SHOW = ["recipe", "show", "FILE"]
+RECIPE = bytes.fromhex("0001000100000200000000000000000000000000")  # drop(0)
+WRITERS = (
+    ("blank", ["blank", "primary=a5"], A),
+    ("body", ["body", "in", "0"], b"\xc3"),
+    ("edit", ["edit", "in", "drop", "0"], A),
+    ("make", ["recipe", "make", "drop", "0"], RECIPE),
+)
 
 
 def reading(words, name):
     """The command with this FILE."""
-    return words[:1] + [name] + words[1:]
+    return [name if word == "FILE" else word for word in words]
 
 
 def text(lines):
@@ -131,11 +144,12 @@ def slowly(command):
 
 def at_terminal(command):
     ours, theirs = pty.openpty()
-    os.write(ours, b"\x04" * len(READERS))  # an end of input for each that would read it
+    os.write(ours, b"\x04" * (len(READERS) + 1))  # an end of input for each that would read it
     said = b"emdf: standard input: is a terminal; name a file, or use a pipe\n"
     with in_folder({"in": B}) as folder:
-        for words in READERS:
-            yield words[0] + ": standard input a terminal", run(command, reading(words, "-"), folder, stdin=theirs), (b"", said, 2)
+        for words in READERS + (SHOW,):
+            got = run(command, reading(words, "-"), folder, stdin=theirs)
+            yield " ".join(words) + ": standard input a terminal", got, (b"", said, 2)
     os.close(theirs)
     os.close(ours)
 
@@ -182,7 +196,8 @@ def closed(command):
 def on_full_device(command):
     said = b"emdf: standard output: No space left on device\n"
     runs = [words + ["-o", "-"] for _, words, _ in WRITERS] + [["info", "in"], ["info", "--json", "in"], ["verdict", "in"]]
-    with in_folder({"in": B}) as folder, open("/dev/full", "wb") as full:
+    runs += [["recipe", "show", "recipe"], ["recipe", "apply", "in", "recipe", "-o", "-"]]
+    with in_folder({"in": B, "recipe": RECIPE}) as folder, open("/dev/full", "wb") as full:
         for words in runs + [["--help"], ["edit", "--help"]]:
             yield " ".join(words[:2]) + ": /dev/full", run(command, words, folder, stdout=full), (b"", said, 2)
         fill(folder, {"many": LONG["many"].data})
@@ -204,10 +219,17 @@ OF_LONG = step(OF_B, "body", 0, LONG_BODY)[0].carrier()
 
 
 def on_full_disk(command):
-    runs = (("blank", ["blank"]), ("body", ["body", "in", "0"]), ("edit", ["edit", "in", "key", "1"]))
+    runs = (
+        ("blank", ["blank"]),
+        ("body", ["body", "in", "0"]),
+        ("edit", ["edit", "in", "key", "1"]),
+        ("make", ["recipe", "make", "key", "1"]),
+        ("apply", ["recipe", "apply", "in", "recipe"]),
+    )
     said = b"emdf: out: File too large\n"
+    of_all = {"in": OF_LONG, "recipe": RECIPE}
     for name, words in runs:
-        for files in ({"in": OF_LONG, "out": b"as it was"}, {"in": OF_LONG}):
+        for files in (of_all | {"out": b"as it was"}, of_all):
             with in_folder(files) as folder:
                 got = run(command, words + ["-o", "out"], folder, preexec_fn=full_disk)
                 yield "%s: a full disk, %d files" % (name, len(files)), got + (standing(folder),), (b"", said, 2, files)
@@ -301,11 +323,11 @@ def pipes(command):
 
 
 def as_other_user(command, other):
-    for words in READERS:
+    for words in READERS + (SHOW,):
         with in_folder({"in": B}) as folder:
             os.chmod(os.path.join(folder, "in"), 0)
             got = run(command, reading(words, "in"), folder, **other)
-            yield words[0] + ": unreadable", got, (b"", b"emdf: in: Permission denied\n", 2)
+            yield " ".join(words) + ": unreadable", got, (b"", b"emdf: in: Permission denied\n", 2)
     for name, words, data in WRITERS:
         with in_folder({"in": B}, 0o555) as folder:
             got = run(command, words + ["-o", "out"], folder, **other) + (standing(folder),)
@@ -385,9 +407,10 @@ def helps(command):
         yield "emdf " + word, (missing, err, status), ([], b"", 0)
 
 
-HELPED = """emdf info|emdf verdict|emdf body|emdf blank|emdf edit|body PLACE HEX|set PLACE NAME=VALUE|drop PLACE|insert PLACE id=ID|
-key ID|protection HEX HEX|sample_offset|duration|group_id|codec_data_present|discard_unknown_payload|payload_frame_aligned|
-create_duplicate|remove_duplicate|priority|processing_allowed|from=bare|from=profile""".replace("\n", "").split("|")
+HELPED = """emdf info|emdf verdict|emdf body|emdf blank|emdf edit|emdf recipe make -o RECIPE EDIT..|emdf recipe show RECIPE|
+emdf recipe apply FILE RECIPE -o OUT|body PLACE HEX|set PLACE NAME=VALUE|drop PLACE|insert PLACE id=ID|key ID|protection HEX HEX|
+sample_offset|duration|group_id|codec_data_present|discard_unknown_payload|payload_frame_aligned|create_duplicate|
+remove_duplicate|priority|processing_allowed|from=bare|from=profile""".replace("\n", "").split("|")
 
 
 def some_of_each(command):

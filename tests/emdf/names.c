@@ -89,10 +89,12 @@ static void check_refusals(void)
 {
     const char *unlisted = emdf_refusal_text(UINT32_MAX);
     uint32_t number;
-    for (number = 0; number <= EMDF_TRUNCATED_HEADER; number++)
+    for (number = 0; number <= EMDF_INVALID_RECORD; number++)
         expect(emdf_refusal_text(number) != unlisted, "a refusal without words");
-    expect(emdf_refusal_text(EMDF_TRUNCATED_HEADER + 1) == unlisted, "a refusal that emdf.h hasn't");
+    expect(emdf_refusal_text(EMDF_INVALID_RECORD + 1) == unlisted, "a refusal that emdf.h hasn't");
     expect(strcmp(emdf_refusal_text(EMDF_TRUNCATED_HEADER), emdf_refusal_text(EMDF_TRUNCATED_CONTAINER)), "1 and 21 in other words");
+    expect(strcmp(emdf_refusal_text(EMDF_BROKEN_CHAIN), emdf_refusal_text(EMDF_INVALID_RECORD)), "22 and 23 in other words");
+    expect(!emdf_refusal_figure(EMDF_BROKEN_CHAIN, 0) && !emdf_refusal_figure(EMDF_INVALID_RECORD, 0), "22 and 23 have no figure");
     expect(!strcmp(emdf_refusal_text(EMDF_NONZERO_PADDING), "padding is not zero"), "12 in words");
     expect(!strcmp(emdf_refusal_figure(EMDF_CONFIGURATION, 1), "deviations"), "15's second figure");
     expect(!emdf_refusal_figure(EMDF_EXCESS_PADDING, 1) && !emdf_refusal_figure(EMDF_EXCESS_PADDING, 2), "11 has one figure");

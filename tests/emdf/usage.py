@@ -8,8 +8,11 @@ USAGES = {
     "body": "usage: emdf body FILE PLACE [-o OUT]",
     "blank": "usage: emdf blank [key=ID] [primary=HEX] [secondary=HEX] [-o OUT]",
     "edit": "usage: emdf edit FILE -o OUT EDIT..",
+    "recipe": """usage: emdf recipe make -o RECIPE EDIT..
+usage: emdf recipe show RECIPE
+usage: emdf recipe apply FILE RECIPE -o OUT""",
 }
-OF_ALL = "usage: emdf info|verdict|body|blank|edit ..; emdf --help says more"
+OF_ALL = "usage: emdf info|verdict|body|blank|edit|recipe ..; emdf --help says more"
 NO_NUMBERS = ("", "-", "-1", "+1", " 0", "0 ", "0x0", "1.0", "18446744073709551616", "0" * 90 + "18446744073709551616", "a", "１")
 NO_HEX = ("", "c", "c3c", "0g", "g0", "0/", "0:", "0@", "0`", "--", "c3 c3", "0xc3")
 NAMES = """sample_offset duration group_id codec_data_present discard_unknown_payload payload_frame_aligned create_duplicate
@@ -115,6 +118,51 @@ def of_settings():
         yield edit_mistake(["set", "0", word], "set: no such setting, or no such value: " + word)
 
 
+def of_recipe():
+    yield mistake("recipe", [], "make, show or apply is wanted")
+    for word in ("", "Make", "mak", "makes", "shows", "-o", "in", "edit"):
+        yield mistake("recipe", [word, "in", "-o", "out"], "not make, show or apply: " + word)
+    for words in ([], ["in", "in"], ["in", "-o", "out"]):
+        yield mistake("recipe", ["show"] + words, "show wants a recipe alone")
+    for words in ([], ["in"], ["-o", "out"], ["in", "-o", "out"], ["in", "in", "in", "-o", "out"]):
+        yield mistake("recipe", ["apply"] + words, "apply wants a file and a recipe")
+    yield mistake("recipe", ["apply", "in", "in"], "no output is named: -o OUT")
+    for words in (["apply", "in", "in"], ["make", "drop", "0"]):
+        yield mistake("recipe", words + ["-o"], "-o wants a file's name")
+        yield mistake("recipe", words + ["-o", ""], "-o wants a file's name")
+        yield mistake("recipe", words[:1] + ["-o", "x"] + words[1:] + ["-o", "y"], "-o stands twice")
+
+
+def of_make():
+    yield mistake("recipe", ["make"], "no edit is named")
+    yield mistake("recipe", ["make", "-o", "out"], "no edit is named")
+    yield mistake("recipe", ["make", "drop", "0"], "no output is named: -o RECIPE")
+    for words in (["set", "0", "priority=1"], ["insert", "0", "id=1"], ["protection", "a5", "-"]):
+        said = words[0] + ": a recipe holds body, drop and key alone"
+        for before, after in (([], []), (["drop", "0"], []), ([], ["key", "0"]), (["key", "a"], ["drop"])):
+            yield make_mistake(before + words + after, said)
+        yield make_mistake(words[:1], said)
+    for number in ("4294967296", "18446744073709551615", "00004294967296"):
+        for words in (["drop", number], ["body", number, "c3"]):
+            said = "a place in a recipe is at most 4294967295: " + number
+            yield make_mistake(words, said)
+            yield make_mistake(["key", "4294967296"] + words + ["drop", "0"], said)
+    for word in ("", "Drop", "blank", "0", "in"):
+        yield make_mistake([word, "0"], "no such edit: " + word)
+    for number in NO_NUMBERS:
+        for words in (["drop", number], ["body", number, "c3"]):
+            yield make_mistake(words, words[0] + " wants a place: a number, from 0 on")
+        yield make_mistake(["key", number], "key wants a key id: a number")
+    for digits in NO_HEX:
+        yield make_mistake(["body", "0", digits], "body wants a body: pairs of hexadecimal digits, - for none, or @FILE")
+    yield make_mistake(["drop", "0", "1"], "drop wants a place alone")
+    yield make_mistake(["drop", "0", "body", "0"], "body wants a place and a body")
+
+
+def make_mistake(words, said):
+    return mistake("recipe", ["make", "-o", "out"] + words, said)
+
+
 def of_names():
     """What a terminal would obey is not echoed, and a long word is cut."""
     yield mistake("info", ["--\x1b[31m\x7f", "in"], "no option --?[31m?")
@@ -139,5 +187,6 @@ def of_commands():
 
 
 def cases():
-    for group in (of_files, of_body, of_blank, of_edit, of_each_edit, of_settings, of_names, helps, of_commands):
+    groups = (of_files, of_body, of_blank, of_edit, of_each_edit, of_settings, of_recipe, of_make, of_names, helps, of_commands)
+    for group in groups:
         yield from group()

@@ -5,17 +5,19 @@
 #include <string.h>
 
 #include "lent.h"
+#include "recipe_model.h"
 
 enum {
     ROOM_MOST = EMDF_PAYLOADS_MOST * EMDF_ROW_BYTES + 1024,
+    BUFFER_MOST = SOURCE_MOST + 1024, /* of a run's two */
     FIGURES_BYTES = 16 /* of a refusal's two */
 };
 
 struct outcome {
     uint32_t number;
     uint8_t answer[ANSWER_MOST];
-    size_t filled;
-    const uint8_t *bytes; /* what it filled the room with */
+    size_t filled, second_filled;
+    const uint8_t *bytes; /* what it filled the room with, and then the second one */
 };
 
 uint32_t (*library_call)(const struct request *) = make_call;
@@ -27,9 +29,10 @@ const struct input *present_input;
 const char *failure_path;
 
 static struct shown source_memory, body_memory, settings_memory;
-static struct filled rooms[2], answers[2];
+static struct filled rooms[2], seconds[2], answers[2];
 static uint8_t *kept[2], *rows, *edited_rows;
 static uint8_t body[BODY_MOST], old_body[BODY_MOST], settings[SETTINGS_MOST];
+static uint8_t single_buffers[2][BUFFER_MOST];
 static const struct request *present_request;
 static size_t present_room;
 static int is_new;
@@ -44,6 +47,7 @@ void prepare_memory(void)
     settings_memory = shown_memory(SETTINGS_MOST);
     for (side = AT_END; side <= AT_START; side++) {
         rooms[side] = filled_memory(ROOM_MOST, side == AT_END ? 0 : 255);
+        seconds[side] = filled_memory(BUFFER_MOST, side == AT_END ? 0x3c : 0xc3);
         answers[side] = filled_memory(ANSWER_MOST, side == AT_END ? 0 : 255);
         kept[side] = must_have(malloc(ROOM_MOST));
     }
@@ -69,8 +73,8 @@ static void print_request(const struct request *r)
     printf("  position  %zu, end %zu, count %zu, width %u, limit %u\n", r->position, r->end, r->count, (unsigned)r->width,
            (unsigned)r->limit);
     printf("  place     %zu, number %llu, profile %lu\n", r->place, (unsigned long long)r->number, (unsigned long)r->profile);
-    printf("  body      %zu bytes, settings %zu bytes\n", r->body.length, r->settings.length);
-    printf("  room      %zu bytes\n", present_room);
+    printf("  body      %zu bytes (or recipe), settings %zu bytes\n", r->body.length, r->settings.length);
+    printf("  room      %zu bytes, second %zu bytes\n", present_room, r->second_length);
 }
 
 void failed(const char *what)
@@ -94,6 +98,20 @@ void failed(const char *what)
 
 /* ---- one call */
 
+/* How much of what was lent the call may have written. Of a run's two buffers that is all: single edits tell which bytes. */
+static void measure_filled(const struct request *r, struct outcome *o)
+{
+    o->filled = o->second_filled = 0;
+    if (o->number != 0)
+        return;
+    if (r->call == RUN_RECIPE) {
+        o->filled = r->room_length;
+        o->second_filled = r->second_length;
+    } else if (FACTS[r->call].rooms > 0) {
+        o->filled = filled_bytes(r->call, r->answer);
+    }
+}
+
 static void judge_call(const struct request *r, enum side side, struct outcome *o)
 {
     size_t answer = FACTS[r->call].answer;
@@ -102,11 +120,22 @@ static void judge_call(const struct request *r, enum side side, struct outcome *
         failed("a number that is not one of the call's");
     if (!is_unchanged(&answers[side], r->answer, answer, answer))
         failed("a byte beside the answer changed");
-    o->filled = o->number == 0 && FACTS[r->call].has_room ? filled_bytes(r->call, r->answer) : 0;
+    measure_filled(r, o);
     if (o->filled > r->room_length)
         failed("an answer of more bytes than were lent");
-    if (!is_unchanged(&rooms[side], r->room, r->room_length, o->filled))
+    if (!is_unchanged(&rooms[side], r->room, r->room_length, o->filled) ||
+        !is_unchanged(&seconds[side], r->second, r->second_length, o->second_filled))
         failed(o->number != 0 ? "a refusal changed what was lent" : "a byte changed that the call has not to write");
+}
+
+/* A recipe that lies in the source is lent there. */
+static const uint8_t *show_body(const struct request *asked, const uint8_t *source, enum side side)
+{
+    uintptr_t from = (uintptr_t)asked->source.bytes, at = (uintptr_t)asked->body.bytes;
+
+    if (at >= from && at + asked->body.length <= from + asked->source.length)
+        return source + (at - from);
+    return show(&body_memory, asked->body.bytes, asked->body.length, side);
 }
 
 static struct outcome perform(const struct request *asked, size_t room, enum side side, uint8_t *copy)
@@ -115,10 +144,11 @@ static struct outcome perform(const struct request *asked, size_t room, enum sid
     struct outcome o;
 
     r.source.bytes = show(&source_memory, asked->source.bytes, asked->source.length, side);
-    r.body.bytes = show(&body_memory, asked->body.bytes, asked->body.length, side);
+    r.body.bytes = show_body(asked, r.source.bytes, side);
     r.settings.bytes = show(&settings_memory, asked->settings.bytes, asked->settings.length, side);
     r.room = lend(&rooms[side], room, side);
     r.room_length = room;
+    r.second = lend(&seconds[side], r.second_length, side);
     r.answer = lend(&answers[side], FACTS[r.call].answer, side);
     present_request = &r;
     present_room = room;
@@ -128,11 +158,26 @@ static struct outcome perform(const struct request *asked, size_t room, enum sid
     memset(o.answer, 0, sizeof o.answer);
     memcpy(o.answer, r.answer, FACTS[r.call].answer);
     memcpy(copy, r.room, o.filled);
+    memcpy(copy + o.filled, r.second, o.second_filled);
     o.bytes = copy;
     refill(&answers[side], r.answer, FACTS[r.call].answer);
     refill(&rooms[side], r.room, o.filled);
+    refill(&seconds[side], r.second, o.second_filled);
     present_request = asked;
     return o;
+}
+
+/* Number and answer are the same in both runs. */
+static void compare_answers(const struct request *r, const struct outcome *one, const struct outcome *other)
+{
+    if (one->number != other->number)
+        failed("two runs return two numbers");
+    if (memcmp(one->answer, other->answer, sizeof one->answer) != 0)
+        failed("two runs answer differently, or a byte of the answer was not written");
+    if (!(outcomes_seen[r->call] >> one->number & 1)) {
+        outcomes_seen[r->call] |= UINT32_C(1) << one->number;
+        is_new = 1;
+    }
 }
 
 /* The call with its slices against an unreadable page on either side: the same has to come out. */
@@ -141,16 +186,9 @@ static struct outcome perform_twice(const struct request *r, size_t room)
     struct outcome one = perform(r, room, AT_END, kept[AT_END]);
     struct outcome other = perform(r, room, AT_START, kept[AT_START]);
 
-    if (one.number != other.number)
-        failed("two runs return two numbers");
-    if (memcmp(one.answer, other.answer, sizeof one.answer) != 0)
-        failed("two runs answer differently, or a byte of the answer was not written");
+    compare_answers(r, &one, &other);
     if (memcmp(one.bytes, other.bytes, one.filled) != 0)
         failed("two runs fill the room differently, or left a byte of it unwritten");
-    if (!(outcomes_seen[r->call] >> one.number & 1)) {
-        outcomes_seen[r->call] |= UINT32_C(1) << one.number;
-        is_new = 1;
-    }
     return one;
 }
 
@@ -218,7 +256,6 @@ static int is_of_reading(uint32_t number)
 /* Every call on a carrier begins with the same reading. */
 static void check_reading(const struct request *r, const struct outcome *o, const struct reading *own)
 {
-    int is_edit = r->call >= EDIT_BODY;
     int has_more = own->number == 0 && emdf_word(own->answer, EMDF_BYTES_CONSUMED) < r->source.length;
 
     if ((own->number == EMDF_TRUNCATED_HEADER) != (r->source.length < 4))
@@ -229,8 +266,18 @@ static void check_reading(const struct request *r, const struct outcome *o, cons
         failed("the refusal is not the reading's");
     else if (own->number == 0 && is_of_reading(o->number))
         failed("a reading's refusal of a carrier that reads");
-    else if (is_edit && own->number == 0 && has_more != (o->number == EMDF_TRAILING_BYTES))
+    else if (is_edit(r->call) && own->number == 0 && has_more != (o->number == EMDF_TRAILING_BYTES))
         failed("20 does not tell bytes after the carrier");
+}
+
+/* The carrier that a call left, until the next input. */
+static void keep_edited(const uint8_t *bytes, size_t length)
+{
+    static uint8_t carrier[SOURCE_MOST];
+
+    memcpy(carrier, bytes, length);
+    edited = carrier;
+    edited_length = length;
 }
 
 /* ---- accepted edits */
@@ -363,39 +410,133 @@ static void check_undone(const struct request *r, const struct reading *own)
 
 static void check_edit(const struct request *r, const struct outcome *o, const struct reading *own)
 {
-    static uint8_t carrier[SOURCE_MOST];
-
     if (o->filled < 4 || o->filled > EMDF_CARRIER_MOST)
         failed("a carrier of an impossible length");
-    memcpy(carrier, o->bytes, o->filled);
-    edited = carrier;
-    edited_length = o->filled;
+    keep_edited(o->bytes, o->filled);
     check_reads_back(r, o, own);
     if (r->call != BLANK)
         check_undone(r, own);
+}
+
+/* ---- recipes */
+
+/* 22 and 23 have no figures, so the answer to either is zeros. */
+static void check_recipe_answer(const struct outcome *o, uint32_t number, const uint64_t words[3])
+{
+    size_t i;
+
+    if (o->number != number)
+        failed("a recipe is not judged as its chain is");
+    for (i = 0; i < 3; i++)
+        if (emdf_word(o->answer, i) != (number == 0 ? words[i] : 0))
+            failed("a recipe has another answer");
+}
+
+static void examine_check(const struct request *r)
+{
+    size_t edits;
+    uint32_t number = judge_recipe(&r->body, &edits);
+    struct outcome o = perform_twice(r, 0);
+    uint64_t words[3] = {edits, 0, 0};
+
+    check_recipe_answer(&o, number, words);
+}
+
+/* Every byte of both buffers is as the edits leave it that are made one by one, in buffers of the same bytes. */
+static void check_buffers(const struct request *r, const struct outcome *o, enum side side)
+{
+    struct buffer buffers[2] = {{single_buffers[0], r->room_length}, {single_buffers[1], r->second_length}};
+    struct ran ran;
+
+    memcpy(buffers[0].bytes, lend(&rooms[side], r->room_length, side), r->room_length);
+    memcpy(buffers[1].bytes, lend(&seconds[side], r->second_length, side), r->second_length);
+    ran = run_singly(&r->source, &r->body, buffers);
+    check_recipe_answer(o, EMDF_ACCEPTED, ran.words);
+    if (memcmp(o->bytes, buffers[0].bytes, r->room_length) != 0)
+        failed("the first buffer is not as single edits leave it");
+    if (memcmp(o->bytes + o->filled, buffers[1].bytes, r->second_length) != 0)
+        failed("the second buffer is not as single edits leave it");
+}
+
+static void check_held(const struct request *r, const struct outcome *o)
+{
+    uint64_t holder = emdf_word(o->answer, EMDF_HOLDER);
+    struct reading left;
+
+    if (holder == EMDF_IN_SOURCE)
+        return;
+    keep_edited(holder == EMDF_IN_FIRST ? o->bytes : o->bytes + o->filled, (size_t)emdf_word(o->answer, EMDF_HELD_LENGTH));
+    read_carrier(edited, edited_length, &left, edited_rows);
+    present_request = r;
+    if (left.number != 0 || emdf_word(left.answer, EMDF_BYTES_CONSUMED) != edited_length)
+        failed("a recipe's carrier does not read back");
+}
+
+/* The buffers that the input asks for: around the longest that the edits write to each, where both have room enough. */
+static void choose_buffers(struct request *r, const struct input *in, uint32_t number)
+{
+    const struct buffer enough[2] = {{single_buffers[0], EMDF_CARRIER_MOST}, {single_buffers[1], EMDF_CARRIER_MOST}};
+    struct ran ran = {{0, 0, 0}, {r->source.length, r->source.length}};
+
+    if (number == EMDF_ACCEPTED)
+        ran = run_singly(&r->source, &r->body, enough);
+    r->room_length = room_of(in, ran.longest[0]);
+    r->second_length = second_room_of(in, ran.longest[1]);
+}
+
+static void examine_run(struct request *r, const struct input *in)
+{
+    static const uint64_t none[3] = {0, 0, 0};
+    size_t edits;
+    uint32_t number = judge_recipe(&r->body, &edits);
+    struct outcome one, other;
+
+    choose_buffers(r, in, number);
+    one = perform(r, r->room_length, AT_END, kept[AT_END]);
+    other = perform(r, r->room_length, AT_START, kept[AT_START]);
+    compare_answers(r, &one, &other);
+    if (one.number != EMDF_ACCEPTED || number != EMDF_ACCEPTED) {
+        check_recipe_answer(&one, number, none);
+        return;
+    }
+    check_buffers(r, &one, AT_END);
+    check_buffers(r, &other, AT_START);
+    calls_made += 3 * edits;
+    check_held(r, &one);
+}
+
+/* ---- every call */
+
+static void examine_call(const struct request *r, const struct input *in, const struct reading *own)
+{
+    struct outcome o = FACTS[r->call].rooms > 0 ? perform_in_room(r, in) : perform_twice(r, 0);
+
+    if (FACTS[r->call].has_carrier)
+        check_reading(r, &o, own);
+    if (is_edit(r->call) && o.number == 0)
+        check_edit(r, &o, own);
 }
 
 int examine(const struct input *in)
 {
     struct reading own = UNREAD;
     struct request r;
-    struct outcome o;
-    int has_carrier = FACTS[in->bytes[AT_CALL] % CALLS].has_carrier;
 
     present_input = in;
     present_request = NULL;
     inputs_run++;
     is_new = 0;
     edited_length = 0;
-    if (has_carrier)
+    if (FACTS[in->bytes[AT_CALL] % CALLS].has_carrier)
         read_carrier(in->bytes + HEAD, in->length - HEAD, &own, rows);
     r = request_of(in, &own, body, settings);
     present_request = &r;
-    o = FACTS[r.call].has_room ? perform_in_room(&r, in) : perform_twice(&r, 0);
-    if (has_carrier)
-        check_reading(&r, &o, &own);
-    if (r.call >= EDIT_BODY && o.number == 0)
-        check_edit(&r, &o, &own);
+    if (r.call == CHECK_RECIPE)
+        examine_check(&r);
+    else if (r.call == RUN_RECIPE)
+        examine_run(&r, in);
+    else
+        examine_call(&r, in, &own);
     present_request = NULL;
     return is_new;
 }

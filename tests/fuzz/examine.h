@@ -13,8 +13,8 @@ extern uint32_t outcomes_seen[CALLS];
 
 void prepare_memory(void);
 
-/* Returns whether a call returned a number that it hadn't before. The carrier that an edit left is `edited_length` bytes at
-   `edited`, or 0. A failure doesn't return. */
+/* Returns whether a call returned a number that it hadn't before. The carrier that an edit or a recipe left is `edited_length`
+   bytes at `edited`, or 0. A failure doesn't return. */
 int examine(const struct input *in);
 
 extern const uint8_t *edited;

@@ -3,19 +3,15 @@
 #include <string.h>
 
 #include "input.h"
+#include "recipe_model.h"
 
 static volatile uint8_t sink;
-
-static int is_edit(const struct request *r)
-{
-    return r->call >= EDIT_BODY;
-}
 
 static uint32_t writes_past_destination(const struct request *r)
 {
     uint32_t number = make_call(r);
 
-    if (is_edit(r) && number == 0)
+    if (is_edit(r->call) && number == 0)
         r->room[r->room_length] ^= 1;
     return number;
 }
@@ -24,7 +20,7 @@ static uint32_t writes_before_destination(const struct request *r)
 {
     uint32_t number = make_call(r);
 
-    if (is_edit(r) && number == 0)
+    if (is_edit(r->call) && number == 0)
         r->room[-1] ^= 1;
     return number;
 }
@@ -32,7 +28,7 @@ static uint32_t writes_before_destination(const struct request *r)
 static uint32_t writes_past_carrier(const struct request *r)
 {
     uint32_t number = make_call(r);
-    size_t filled = is_edit(r) && number == 0 ? filled_bytes(r->call, r->answer) : r->room_length;
+    size_t filled = is_edit(r->call) && number == 0 ? filled_bytes(r->call, r->answer) : r->room_length;
 
     if (filled < r->room_length)
         r->room[filled] ^= 1;
@@ -43,7 +39,7 @@ static uint32_t writes_on_refusal(const struct request *r)
 {
     uint32_t number = make_call(r);
 
-    if (is_edit(r) && number != 0 && r->room_length > 0)
+    if (is_edit(r->call) && number != 0 && r->room_length > 0)
         r->room[r->room_length / 2] ^= 1;
     return number;
 }
@@ -132,7 +128,7 @@ static uint32_t answers_19_unmeasured(const struct request *r)
 {
     struct request empty = *r;
 
-    if (is_edit(r))
+    if (is_edit(r->call))
         empty.room_length = 0;
     return make_call(&empty);
 }
@@ -165,7 +161,7 @@ static uint32_t returns_other_refusal(const struct request *r)
 {
     uint32_t number = make_call(r);
 
-    return is_edit(r) && number == EMDF_EXCESS_PADDING ? EMDF_NONZERO_PADDING : number;
+    return is_edit(r->call) && number == EMDF_EXCESS_PADDING ? EMDF_NONZERO_PADDING : number;
 }
 
 static uint32_t keeps_state(const struct request *r)
@@ -185,7 +181,7 @@ static uint32_t copies_source(const struct request *r)
     struct request other = *r;
     uint32_t number;
 
-    if (r->call < EDIT_BODY || r->call == BLANK || r->room_length > sizeof aside)
+    if (!is_edit(r->call) || r->call == BLANK || r->room_length > sizeof aside)
         return make_call(r);
     other.room = aside;
     number = make_call(&other);
@@ -228,6 +224,265 @@ static uint32_t ends_never(const struct request *r)
     return make_call(r);
 }
 
+/* ---- recipes that are checked wrongly */
+
+/* Leads along the chain as far as it is one: the record after a record, which may be the first of all, or 0. */
+static size_t record_after(const struct slice *file, size_t index)
+{
+    size_t next = 0;
+
+    if (file->length >= EMDF_RECIPE_HEAD_BYTES)
+        next = index == 0 ? first_record(file) : record_at(file->bytes, index).next;
+    return next > index && next <= records_in(file->length) ? next : 0;
+}
+
+typedef void (*record_change)(struct record *e, size_t index, size_t file_length);
+
+/* As if the records of the chain were others. */
+static uint32_t call_with_others(const struct request *r, record_change change)
+{
+    static uint8_t copy[SOURCE_MOST];
+    struct request other = *r;
+    size_t i = 0;
+
+    if (!is_recipe(r->call))
+        return make_call(r);
+    memcpy(copy, r->body.bytes, r->body.length);
+    other.body.bytes = copy;
+    while ((i = record_after(&other.body, i)) != 0) {
+        struct record e = record_at(copy, i);
+        change(&e, i, other.body.length);
+        put_record(copy, i, &e);
+    }
+    return make_call(&other);
+}
+
+static void end_at_own(struct record *e, size_t index, size_t file_length)
+{
+    (void)file_length;
+    if (e->next == index)
+        e->next = 0;
+}
+
+static uint32_t takes_own_index(const struct request *r)
+{
+    return call_with_others(r, end_at_own);
+}
+
+static void pass_in_32_bits(struct record *e, size_t index, size_t file_length)
+{
+    uint32_t end = e->offset + e->length;
+
+    (void)index;
+    if (e->kind == EMDF_RECIPE_DROP || end >= e->offset || end > file_length)
+        return;
+    e->offset = 0;
+    if (e->kind == EMDF_RECIPE_BODY)
+        e->length = 0;
+}
+
+static uint32_t adds_in_32_bits(const struct request *r)
+{
+    return call_with_others(r, pass_in_32_bits);
+}
+
+static void zero_byte(struct record *e, size_t index, size_t file_length)
+{
+    (void)index;
+    (void)file_length;
+    if (e->kind == EMDF_RECIPE_DROP)
+        e->zero = 0;
+}
+
+static uint32_t takes_any_byte_of_drop(const struct request *r)
+{
+    return call_with_others(r, zero_byte);
+}
+
+static void ask_of_drop(struct record *e, size_t index, size_t file_length)
+{
+    (void)index;
+    if (e->kind == EMDF_RECIPE_DROP && (uint64_t)e->offset + e->length > file_length)
+        e->kind = 0;
+}
+
+static uint32_t asks_data_of_drop(const struct request *r)
+{
+    return call_with_others(r, ask_of_drop);
+}
+
+static void end_here(struct record *e, size_t index, size_t file_length)
+{
+    (void)index;
+    (void)file_length;
+    e->next = 0;
+}
+
+static uint32_t makes_first_edit_only(const struct request *r)
+{
+    return call_with_others(r, end_here);
+}
+
+static int is_listed(const struct record *e)
+{
+    return e->kind >= EMDF_RECIPE_BODY && e->kind <= EMDF_RECIPE_KEY;
+}
+
+/* A record off the chain is asked about, too. */
+static uint32_t asks_every_record(const struct request *r)
+{
+    size_t i;
+
+    for (i = 1; is_recipe(r->call) && i <= records_in(r->body.length) && i <= number_of(r->body.bytes + 2, 2); i++) {
+        struct record e = record_at(r->body.bytes, i);
+        if (!is_listed(&e)) {
+            memset(r->answer, 0, FACTS[r->call].answer);
+            return EMDF_INVALID_RECORD;
+        }
+    }
+    return make_call(r);
+}
+
+/* The record that breaks the chain is the last one to which it leads. */
+static uint32_t asks_kind_before_next(const struct request *r)
+{
+    uint32_t number = make_call(r);
+    size_t i = 0;
+
+    while (is_recipe(r->call) && number == EMDF_BROKEN_CHAIN && (i = record_after(&r->body, i)) != 0) {
+        struct record e = record_at(r->body.bytes, i);
+        if (!is_listed(&e))
+            number = EMDF_INVALID_RECORD;
+    }
+    return number;
+}
+
+static uint32_t reads_past_recipe(const struct request *r)
+{
+    if (is_recipe(r->call))
+        sink = r->body.bytes[r->body.length];
+    return make_call(r);
+}
+
+/* ---- recipes that are run wrongly */
+
+static uint32_t writes_first_of_refused(const struct request *r)
+{
+    uint32_t number = make_call(r);
+
+    if (r->call == RUN_RECIPE && number != 0 && r->room_length > 0)
+        r->room[0] ^= 1;
+    return number;
+}
+
+static uint32_t writes_second_of_refused(const struct request *r)
+{
+    uint32_t number = make_call(r);
+
+    if (r->call == RUN_RECIPE && number != 0 && r->second_length > 0)
+        r->second[r->second_length - 1] ^= 1;
+    return number;
+}
+
+static int is_held_in(const struct request *r, uint32_t number, uint64_t holder)
+{
+    return r->call == RUN_RECIPE && number == 0 && emdf_word(r->answer, EMDF_HOLDER) == holder;
+}
+
+static uint32_t writes_past_held(const struct request *r)
+{
+    uint32_t number = make_call(r);
+    size_t held = is_held_in(r, number, EMDF_IN_SECOND) ? (size_t)emdf_word(r->answer, EMDF_HELD_LENGTH) : r->second_length;
+
+    if (held < r->second_length)
+        r->second[held] ^= 1;
+    return number;
+}
+
+/* The buffer that was left last is no longer the carrier's. */
+static uint32_t clears_other_buffer(const struct request *r)
+{
+    uint32_t number = make_call(r);
+
+    if (is_held_in(r, number, EMDF_IN_SECOND))
+        r->room[0] = 0;
+    return number;
+}
+
+static uint32_t forgets_source_length(const struct request *r)
+{
+    uint32_t number = make_call(r);
+
+    if (is_held_in(r, number, EMDF_IN_SOURCE))
+        emdf_set_word(r->answer, EMDF_HELD_LENGTH, 0);
+    return number;
+}
+
+static uint32_t counts_one_refusal(const struct request *r)
+{
+    uint32_t number = make_call(r);
+
+    if (r->call == RUN_RECIPE && number == 0 && emdf_word(r->answer, EMDF_REFUSED_EDITS) > 1)
+        emdf_set_word(r->answer, EMDF_REFUSED_EDITS, 1);
+    return number;
+}
+
+/* What is done after an edit, where it isn't what should be. */
+enum rule { SWITCH_ALWAYS, START_AGAIN, STAY_IN_FIRST };
+
+static uint32_t run_by(enum rule rule, const struct request *r)
+{
+    static uint8_t aside[SOURCE_MOST];
+    const struct buffer buffers[2] = {{r->room, r->room_length}, {r->second, r->second_length}};
+    uint64_t words[3] = {EMDF_IN_SOURCE, r->source.length, 0};
+    struct slice held = r->source, source;
+    size_t edits, i = 0, to = 0;
+
+    if (r->call != RUN_RECIPE || judge_recipe(&r->body, &edits) != 0)
+        return make_call(r);
+    while ((i = record_after(&r->body, i)) != 0) {
+        struct record e = record_at(r->body.bytes, i);
+        uint8_t answer[EMDF_EDIT_ANSWER_BYTES];
+        int is_accepted;
+
+        /* The buffer to write may be the one that holds the carrier. */
+        memcpy(aside, held.bytes, held.length);
+        source.bytes = aside;
+        source.length = held.length;
+        is_accepted = single_edit(&r->body, &e, &source, &buffers[to], answer) == EMDF_ACCEPTED;
+        if (is_accepted) {
+            words[EMDF_HOLDER] = to == 0 ? EMDF_IN_FIRST : EMDF_IN_SECOND;
+            words[EMDF_HELD_LENGTH] = emdf_word(answer, EMDF_WRITTEN_LENGTH);
+            held.bytes = buffers[to].bytes;
+            held.length = (size_t)words[EMDF_HELD_LENGTH];
+        } else {
+            words[EMDF_REFUSED_EDITS]++;
+        }
+        if (rule == START_AGAIN)
+            held = r->source;
+        if (rule == SWITCH_ALWAYS || (rule == START_AGAIN && is_accepted))
+            to = 1 - to;
+    }
+    for (i = 0; i < 3; i++)
+        emdf_set_word(r->answer, i, words[i]);
+    return EMDF_ACCEPTED;
+}
+
+static uint32_t switches_after_refusal(const struct request *r)
+{
+    return run_by(SWITCH_ALWAYS, r);
+}
+
+static uint32_t starts_again(const struct request *r)
+{
+    return run_by(START_AGAIN, r);
+}
+
+static uint32_t stays_in_first(const struct request *r)
+{
+    return run_by(STAY_IN_FIRST, r);
+}
+
 const struct fault FAULTS[] = {
     {"writes a byte past the destination", writes_past_destination},
     {"writes a byte before the destination", writes_before_destination},
@@ -253,6 +508,23 @@ const struct fault FAULTS[] = {
     {"flips a bit in an edit of settings", flips_body_bit},
     {"turns a body around", turns_body},
     {"does not end", ends_never},
+    {"takes a next index that is the record's own", takes_own_index},
+    {"adds offset and length in 32 bits", adds_in_32_bits},
+    {"takes a drop whose zero byte is not zero", takes_any_byte_of_drop},
+    {"asks for the data of a drop", asks_data_of_drop},
+    {"makes the first edit of a recipe only", makes_first_edit_only},
+    {"asks about records off the chain", asks_every_record},
+    {"asks for a record's kind before its next index", asks_kind_before_next},
+    {"reads a byte past the recipe", reads_past_recipe},
+    {"writes the first buffer of a refused recipe", writes_first_of_refused},
+    {"writes the second buffer of a refused recipe", writes_second_of_refused},
+    {"writes a byte past the carrier in the second buffer", writes_past_held},
+    {"writes to the buffer that an edit started from", clears_other_buffer},
+    {"answers no length for the source", forgets_source_length},
+    {"counts no more than one refused edit", counts_one_refusal},
+    {"switches buffers after a refused edit", switches_after_refusal},
+    {"starts each edit of a recipe from the source", starts_again},
+    {"keeps to the first buffer", stays_in_first},
 };
 
 const unsigned FAULT_COUNT = sizeof FAULTS / sizeof FAULTS[0];

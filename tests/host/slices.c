@@ -15,11 +15,20 @@ static const uint8_t B_EMPTY[] = {0x58, 0x38, 0x00, 0x06, 0x00, 0x42, 0x00, 0x02
 static const uint8_t UNALIGNED[] = {0x58, 0x38, 0x00, 0x07, 0x00, 0x40, 0x01, 0x61, 0x81, 0x29, 0x40};
 static const uint8_t A5[] = {0xa5}, C3[] = {0xc3};
 
+/* Recipes: without an edit; drop(0); body(0, empty) and then drop(0), which make B_EMPTY and A of B; a record outside the file;
+   a kind that isn't listed. */
+static const uint8_t NO_EDIT[] = {0, 0, 0, 0};
+static const uint8_t DROP[] = {0, 1, 0, 1, 0, 0, 2, 0, 0, 0, 0, 0, 0, 0, 0, 0, 0, 0, 0, 0};
+static const uint8_t EMPTY_AND_DROP[] = {0, 1, 0, 2, 0, 2, 1, 0, 0, 0, 0, 0, 0, 0, 0, 0, 0, 0, 0, 0,
+                                         0, 0, 2, 0, 0, 0, 0, 0, 0, 0, 0, 0, 0, 0, 0, 0};
+static const uint8_t NO_RECORD[] = {0, 1, 0, 1};
+static const uint8_t NO_KIND[] = {0, 1, 0, 1, 0, 0, 4, 0, 0, 0, 0, 0, 0, 0, 0, 0, 0, 0, 0, 0};
+
 #define OF(bytes) bytes, sizeof(bytes)
 #define NONE NULL, 0
 #define BARE OF(emdf_settings_bare)
 
-static uint8_t answer[EMDF_CLASS_ANSWER_BYTES + 8], room[ROOM];
+static uint8_t answer[EMDF_CLASS_ANSWER_BYTES + 8], room[ROOM], second[ROOM];
 static unsigned checks, failures;
 
 static void fail(const char *what, const char *how)
@@ -44,7 +53,15 @@ static int is_filling(const uint8_t *bytes, size_t length)
     return 1;
 }
 
-/* The returned number and the answer's words, and nothing beside them; in the room a carrier, or nothing. */
+/* In a room a carrier, or nothing. Then it is as it was. */
+static void expect_room(const char *call, uint8_t *lent, const uint8_t *carrier, size_t length)
+{
+    if ((length > 0 && memcmp(lent, carrier, length) != 0) || !is_filling(lent + length, ROOM - length))
+        fail(call, "other bytes in the room");
+    memset(lent, FILLING, ROOM);
+}
+
+/* The returned number and the answer's words, and nothing beside them; and the room. */
 static void expect(const char *call, uint32_t number, size_t answer_bytes, const uint8_t *carrier, size_t length,
                    const uint64_t *wanted)
 {
@@ -57,10 +74,8 @@ static void expect(const char *call, uint32_t number, size_t answer_bytes, const
             fail(call, "another answer");
     if (!is_filling(answer + answer_bytes, sizeof answer - answer_bytes))
         fail(call, "a byte beside the answer");
-    if ((length > 0 && memcmp(room, carrier, length) != 0) || !is_filling(room + length, sizeof room - length))
-        fail(call, "other bytes in the room");
+    expect_room(call, room, carrier, length);
     memset(answer, FILLING, sizeof answer);
-    memset(room, FILLING, sizeof room);
 }
 
 /* Words that aren't named are 0. */
@@ -72,6 +87,7 @@ static void expect(const char *call, uint32_t number, size_t answer_bytes, const
 #define VERDICT(call, ...) expect(#call, call, EMDF_VERDICT_ANSWER_BYTES, NONE, WORDS(__VA_ARGS__))
 #define REFUSED(call, ...) expect(#call, call, EMDF_EDIT_ANSWER_BYTES, NONE, WORDS(__VA_ARGS__))
 #define WRITES(carrier, call) expect(#call, call, EMDF_EDIT_ANSWER_BYTES, OF(carrier), WORDS(EMDF_ACCEPTED, sizeof(carrier)))
+#define CHECKS(call, ...) expect(#call, call, EMDF_CHECK_ANSWER_BYTES, NONE, WORDS(__VA_ARGS__))
 
 /* No bits are left, wherever the cursor is. */
 static void check_bits(void)
@@ -157,6 +173,45 @@ static void check_destinations(void)
     REFUSED(emdf_blank(0, OF(A5), NONE, NONE, answer), EMDF_DESTINATION_TOO_SHORT, sizeof A);
 }
 
+static void check_recipes(void)
+{
+    CHECKS(emdf_check_recipe(NONE, answer), EMDF_BROKEN_CHAIN);
+    CHECKS(emdf_check_recipe(OF(NO_EDIT), answer), EMDF_ACCEPTED, 0);
+    CHECKS(emdf_check_recipe(OF(DROP), answer), EMDF_ACCEPTED, 1);
+    CHECKS(emdf_check_recipe(OF(EMPTY_AND_DROP), answer), EMDF_ACCEPTED, 2);
+    CHECKS(emdf_check_recipe(OF(NO_RECORD), answer), EMDF_BROKEN_CHAIN);
+    CHECKS(emdf_check_recipe(OF(NO_KIND), answer), EMDF_INVALID_RECORD);
+}
+
+/* What is in the two rooms, and what is answered. */
+#define RUN(in_first, in_second, call, ...) \
+    do { \
+        uint32_t returned = call; \
+        expect_room(#call, second, in_second); \
+        expect(#call, returned, EMDF_RUN_ANSWER_BYTES, in_first, WORDS(__VA_ARGS__)); \
+    } while (0)
+
+/* An edit of an empty source is refused (21), and one into an empty buffer (19): the next one has the same buffer. */
+static void check_runs(void)
+{
+    RUN(NONE, NONE, emdf_run_recipe(NONE, NONE, NONE, NONE, answer), EMDF_BROKEN_CHAIN);
+    RUN(NONE, NONE, emdf_run_recipe(OF(B), NONE, OF(room), OF(second), answer), EMDF_BROKEN_CHAIN);
+    RUN(NONE, NONE, emdf_run_recipe(OF(B), OF(NO_KIND), NONE, OF(second), answer), EMDF_INVALID_RECORD);
+    RUN(NONE, NONE, emdf_run_recipe(OF(B), OF(NO_RECORD), OF(room), NONE, answer), EMDF_BROKEN_CHAIN);
+    RUN(NONE, NONE, emdf_run_recipe(NONE, OF(NO_EDIT), NONE, NONE, answer), EMDF_ACCEPTED, EMDF_IN_SOURCE, 0, 0);
+    RUN(NONE, NONE, emdf_run_recipe(OF(B), OF(NO_EDIT), NONE, NONE, answer), EMDF_ACCEPTED, EMDF_IN_SOURCE, sizeof B, 0);
+    RUN(NONE, NONE, emdf_run_recipe(NONE, OF(EMPTY_AND_DROP), OF(room), OF(second), answer), EMDF_ACCEPTED, EMDF_IN_SOURCE, 0, 2);
+    RUN(OF(A), NONE, emdf_run_recipe(OF(B), OF(DROP), OF(room), NONE, answer), EMDF_ACCEPTED, EMDF_IN_FIRST, sizeof A, 0);
+    RUN(NONE, NONE, emdf_run_recipe(OF(B), OF(DROP), NONE, OF(second), answer), EMDF_ACCEPTED, EMDF_IN_SOURCE, sizeof B, 1);
+    RUN(OF(B_EMPTY), OF(A), emdf_run_recipe(OF(B), OF(EMPTY_AND_DROP), OF(room), OF(second), answer), EMDF_ACCEPTED,
+        EMDF_IN_SECOND, sizeof A, 0);
+    RUN(OF(B_EMPTY), NONE, emdf_run_recipe(OF(B), OF(EMPTY_AND_DROP), OF(room), NONE, answer), EMDF_ACCEPTED, EMDF_IN_FIRST,
+        sizeof B_EMPTY, 1);
+    RUN(NONE, NONE, emdf_run_recipe(OF(B), OF(EMPTY_AND_DROP), NONE, OF(second), answer), EMDF_ACCEPTED, EMDF_IN_SOURCE,
+        sizeof B, 2);
+    RUN(NONE, NONE, emdf_run_recipe(OF(B), OF(EMPTY_AND_DROP), NONE, NONE, answer), EMDF_ACCEPTED, EMDF_IN_SOURCE, sizeof B, 2);
+}
+
 /* ---- slices that overlap */
 
 static uint8_t apart[ROOM], apart_answer[EMDF_EDIT_ANSWER_BYTES];
@@ -209,17 +264,72 @@ static void check_overlaps(void)
                 emdf_blank(9, source, most, source, most, HERE));
 }
 
+/* A run of which the recipe lies in the source, and the same run of copies apart: number, answer and both buffers. */
+static void expect_same_run(const char *what, const uint8_t *source, size_t length, const uint8_t *recipe, size_t recipe_length)
+{
+    static uint8_t copy[ROOM], recipe_copy[ROOM], second_apart[ROOM], run_answer[EMDF_RUN_ANSWER_BYTES];
+    uint32_t number_apart, number;
+    memcpy(copy, source, length);
+    memcpy(recipe_copy, recipe, recipe_length);
+    memset(second_apart, FILLING, sizeof second_apart);
+    number_apart = emdf_run_recipe(copy, length, recipe_copy, recipe_length, OF(apart), OF(second_apart), run_answer);
+    number = emdf_run_recipe(source, length, recipe, recipe_length, OF(room), OF(second), answer);
+    checks++;
+    if (number_apart != number || memcmp(answer, run_answer, sizeof run_answer) != 0)
+        fail(what, "another answer than from slices apart");
+    if (memcmp(room, apart, sizeof room) != 0 || memcmp(second, second_apart, sizeof second) != 0)
+        fail(what, "other buffers than from slices apart");
+    memset(answer, FILLING, sizeof answer);
+    memset(room, FILLING, sizeof room);
+    memset(second, FILLING, sizeof second);
+    memset(apart, FILLING, sizeof apart);
+}
+
+/* A source that has a recipe as its body, on its bytes 7 and on: the data of the recipe's body edit are the source's, too. */
+static void check_recipe_overlaps(void)
+{
+    static const uint8_t recipe[] = {0, 1, 0, 2, 0, 2, 1, 0, 0, 0, 0, 0, 0, 0, 0, 2, 0, 0, 0, 9,
+                                     0, 0, 3, 0, 0, 0, 0, 0, 0, 0, 0, 4, 0, 0, 0, 8};
+    uint8_t source[64];
+    size_t length, first = 7;
+    uint32_t number = emdf_edit_insert(OF(A), 0, 1, BARE, OF(recipe), source, sizeof source, answer);
+    length = (size_t)emdf_word(answer, EMDF_WRITTEN_LENGTH);
+    memset(answer, FILLING, sizeof answer);
+    if (number != EMDF_ACCEPTED || memcmp(source + first, OF(recipe)) != 0) {
+        fail("a source with a recipe in it", "not made");
+        return;
+    }
+    number = emdf_run_recipe(source, length, source + first, sizeof recipe, OF(room), OF(second), answer);
+    checks++;
+    if (number != EMDF_ACCEPTED || emdf_word(answer, EMDF_HOLDER) != EMDF_IN_SECOND || emdf_word(answer, EMDF_REFUSED_EDITS) != 0)
+        fail("recipe: in the source", "refused, or an edit of it");
+    memset(answer, FILLING, sizeof answer);
+    memset(room, FILLING, sizeof room);
+    memset(second, FILLING, sizeof second);
+    expect_same_run("recipe: in the source", source, length, source + first, sizeof recipe);
+    expect_same_run("recipe: the source's last bytes", source, length, source + first, length - first);
+    RUN(NONE, NONE, emdf_run_recipe(source, length, source, length, OF(room), OF(second), answer), EMDF_BROKEN_CHAIN);
+    RUN(NONE, NONE, emdf_run_recipe(OF(recipe), OF(recipe), OF(room), OF(second), answer), EMDF_ACCEPTED, EMDF_IN_SOURCE,
+        sizeof recipe, 2);
+    RUN(NONE, NONE, emdf_run_recipe(OF(NO_EDIT), OF(NO_EDIT), OF(room), OF(second), answer), EMDF_ACCEPTED, EMDF_IN_SOURCE,
+        sizeof NO_EDIT, 0);
+}
+
 int main(void)
 {
     memset(answer, FILLING, sizeof answer);
     memset(room, FILLING, sizeof room);
+    memset(second, FILLING, sizeof second);
     check_version();
     check_bits();
     check_carriers();
     check_sources();
     check_contents();
     check_destinations();
+    check_recipes();
+    check_runs();
     check_overlaps();
+    check_recipe_overlaps();
     printf("host: the version, and slices that are empty or overlap: %u checks, %u failures\n", checks, failures);
     return failures != 0;
 }

@@ -20,6 +20,8 @@ WORDS = {
     18: ("more than 65535 bytes to declare",),
     20: ("bytes after the carrier",),
     21: ("fewer bytes than a header has", "needed", "available"),
+    22: ("the recipe's chain is broken",),
+    23: ("a record of the recipe is not of the form",),
 }
 
 # Figures that are shown as bits.

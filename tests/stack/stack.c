@@ -9,6 +9,7 @@
 
 #include "lent.h"
 #include "mutate.h"
+#include "recipes.h"
 #include "seeds.h"
 #include "traps.h"
 
@@ -24,7 +25,7 @@ static const code ENTRIES[CALLS] = {
     (code)emdf_bit_cursor, (code)emdf_bits_remaining, (code)emdf_read_bits, (code)emdf_read_bit, (code)emdf_take_bits,
     (code)emdf_byte_align, (code)emdf_variable_bits, (code)emdf_classify, (code)emdf_read, (code)emdf_move_body,
     (code)emdf_verdict, (code)emdf_edit_body, (code)emdf_edit_settings, (code)emdf_edit_drop, (code)emdf_edit_insert,
-    (code)emdf_edit_key, (code)emdf_edit_protection, (code)emdf_blank,
+    (code)emdf_edit_key, (code)emdf_edit_protection, (code)emdf_blank, (code)emdf_check_recipe, (code)emdf_run_recipe,
 };
 
 struct measured {
@@ -123,19 +124,26 @@ static size_t measure_with(uint8_t filling)
     return (size_t)(entry_stack - (uintptr_t)(stack + low));
 }
 
+/* A recipe of one edit goes as deep as any. */
+static int is_small(const struct request *r)
+{
+    return r->source.length + r->body.length <= STEPPED_MOST && (!is_recipe(r->call) || r->body.length <= CHAIN_BYTES(1));
+}
+
 /* Twice, since a byte that is written may be the pattern's. */
 static void measure(const struct request *r)
 {
-    static uint8_t room[ROOM], answer[ANSWER_MOST];
+    static uint8_t room[ROOM], second[ROOM], answer[ANSWER_MOST];
     struct measured *m = &most[r->call];
     size_t one, other;
 
     present = *r;
     present.room = room;
+    present.second = second;
     present.answer = answer;
     wants_steps = 0;
     one = measure_with(0xa7);
-    wants_steps = r->source.length + r->body.length <= STEPPED_MOST && is_stepped;
+    wants_steps = is_stepped && is_small(r);
     other = measure_with(0x58);
     if (other > one)
         one = other;
@@ -157,9 +165,9 @@ static void measure_input(void *with, const struct input *in)
     struct request r = request_of(in, &UNREAD, body, settings);
 
     (void)with;
-    r.room_length = ROOM;
+    r.room_length = r.second_length = ROOM;
     measure(&r);
-    r.room_length = 0;
+    r.room_length = r.second_length = 0;
     measure(&r);
 }
 

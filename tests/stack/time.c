@@ -1,12 +1,13 @@
-/* The time of each call on carriers of doubling length: eight times the carrier has to take some eight times as long. */
+/* The time of each call on carriers and recipes of doubling length: eight times as much has to take some eight times as long. */
 #include <stdio.h>
 #include <string.h>
 
 #include "clock.h"
 #include "input.h"
+#include "recipes.h"
 #include "seeds.h"
 
-enum { SIZES = 4, ROUNDS = 15, ROOM = 4000 * EMDF_ROW_BYTES };
+enum { SIZES = 4, ROUNDS = 15, ROOM = 4000 * EMDF_ROW_BYTES, EDITS_LEAST = 500, EDITS_MOST = EDITS_LEAST << (SIZES - 1) };
 
 struct shape {
     const char *name;
@@ -22,7 +23,7 @@ static const struct shape SHAPES[2][SIZES] = {
 
 static uint8_t carriers[2][SIZES][EMDF_CARRIER_MOST];
 static size_t lengths[2][SIZES];
-static uint8_t room[ROOM];
+static uint8_t room[ROOM], second[ROOM], recipe[CHAIN_BYTES(EDITS_MOST)];
 
 /* In nanoseconds, the best of some rounds: what else runs on the machine only adds. */
 static double time_of(struct request *r)
@@ -69,6 +70,34 @@ static void time_call(enum call call, int kind)
     printf("  %5.1f\n", last / first);
 }
 
+/* Of a carrier with a short body, so that its length counts for little. */
+static void time_recipe(enum call call)
+{
+    static uint8_t carrier[EMDF_CARRIER_MOST], answer[ANSWER_MOST];
+    size_t length = seed_carrier(carrier, 1, 8, 0);
+    double first = 0, last = 0;
+    int i;
+
+    printf("%-22s %-10s", FACTS[call].name, "records");
+    for (i = 0; i < SIZES; i++) {
+        struct request r;
+        memset(&r, 0, sizeof r);
+        r.call = call;
+        r.source.bytes = carrier;
+        r.source.length = length;
+        r.body.bytes = recipe;
+        r.body.length = chain_recipe(recipe, EDITS_LEAST << i);
+        r.room = room;
+        r.second = second;
+        r.room_length = r.second_length = sizeof room;
+        r.answer = answer;
+        last = time_of(&r);
+        first = i == 0 ? last : first;
+        printf(" %9.0f", last);
+    }
+    printf("  %5.1f\n", last / first);
+}
+
 int main(void)
 {
     int kind, i;
@@ -81,5 +110,7 @@ int main(void)
     for (call = CLASSIFY; call < BLANK; call++)
         for (kind = 0; kind < 2; kind++)
             time_call(call, kind);
+    time_recipe(CHECK_RECIPE);
+    time_recipe(RUN_RECIPE);
     return 0;
 }

@@ -17,7 +17,7 @@ enum {
     ROOM = 200000,
     ROUNDS_MOST = 10000,
     SHARED = 64 << 20, /* bytes for the slices of all cases */
-    MARGIN = 64, /* bytes beside the room and the answer that have to stay */
+    MARGIN = 64, /* bytes beside the rooms and the answer that have to stay */
     FILLING = 0x5a
 };
 
@@ -25,12 +25,13 @@ enum {
 struct known {
     struct request request;
     uint32_t number;
-    uint64_t digest; /* of the whole answer and the whole room */
+    uint64_t digest; /* of the whole answer and the whole rooms */
 };
 
 /* What a thread writes to, of its own. */
 struct workplace {
     uint8_t room[MARGIN + ROOM + MARGIN];
+    uint8_t second[MARGIN + ROOM + MARGIN];
     uint8_t answer[MARGIN + ANSWER_MOST + MARGIN];
 };
 
@@ -88,11 +89,15 @@ static uint32_t call_once(const struct request *asked, struct workplace *work, u
     uint32_t number;
 
     memset(work->room, FILLING, MARGIN + r.room_length + MARGIN);
+    memset(work->second, FILLING, MARGIN + r.second_length + MARGIN);
     memset(work->answer, FILLING, sizeof work->answer);
     r.room = work->room + MARGIN;
+    r.second = work->second + MARGIN;
     r.answer = work->answer + MARGIN;
     number = library_call(&r);
-    *found = digest(digest(number, work->answer, sizeof work->answer), work->room, MARGIN + r.room_length + MARGIN);
+    *found = digest(number, work->answer, sizeof work->answer);
+    *found = digest(*found, work->room, MARGIN + r.room_length + MARGIN);
+    *found = digest(*found, work->second, MARGIN + r.second_length + MARGIN);
     return number;
 }
 
@@ -110,11 +115,11 @@ static const uint8_t *share(const uint8_t *bytes, size_t length)
     return shared.read + at;
 }
 
-static size_t room_for(const struct request *r, const struct input *in)
+static size_t room_for(const struct request *r, uint8_t choice)
 {
     size_t room = r->call == READ ? 40 * EMDF_ROW_BYTES : r->source.length + r->body.length + 100;
 
-    if (in->bytes[AT_ROOM] % 4 == 3)
+    if (choice % 4 == 3)
         room /= 4;
     return room < ROOM ? room : ROOM;
 }
@@ -123,11 +128,14 @@ static void add_case(void *with, const struct input *in)
 {
     static uint8_t body[BODY_MOST], settings[SETTINGS_MOST];
     struct known *k = &cases[case_count];
+    int rooms;
 
     if (case_count == CASES)
         return;
     k->request = request_of(in, &UNREAD, body, settings);
-    k->request.room_length = FACTS[k->request.call].has_room ? room_for(&k->request, in) : 0;
+    rooms = FACTS[k->request.call].rooms;
+    k->request.room_length = rooms > 0 ? room_for(&k->request, in->bytes[AT_ROOM]) : 0;
+    k->request.second_length = rooms > 1 ? room_for(&k->request, in->bytes[AT_SECOND_ROOM]) : 0;
     k->request.source.bytes = share(k->request.source.bytes, k->request.source.length);
     k->request.body.bytes = share(k->request.body.bytes, k->request.body.length);
     k->request.settings.bytes = share(k->request.settings.bytes, k->request.settings.length);

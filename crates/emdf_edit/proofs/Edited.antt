@@ -11,7 +11,7 @@ use Rattle.emdf_format.specs.declared.EditAnswer.{EditAnswer}
 use Rattle.emdf_format.specs.declared.EditAnswer.the-variants.{Written, Refused}
 use Rattle.emdf_format.specs.Syntax.{_⨟_, octetBits}
 use Rattle.emdf_format.specs.Contents.{carrier}
-use Rattle.emdf_format.specs.Edits.{Bytes, carrierLength, stepAnswer, written, edited}
+use Rattle.emdf_format.specs.Edits.{Bytes, carrierLength, stepAnswer, written, edited, Called}
 use Rattle.emdf_format.proofs.Bytes.{declared-is}
 use Rattle.emdf_format.proofs.Splice.{⨟-assoc}
 use Rattle.emdf_writer.specs.Writing.{bitRun}
@@ -23,7 +23,6 @@ use Rattle.emdf_plan.specs.Plan.{planOf, spliced}
 use Rattle.emdf_field_writer.specs.Fields.{syncBits}
 use Rattle.emdf_request.specs.declared.Request.{Request}
 use Rattle.emdf_edit.specs.Cuts.{keptBits, Within}
-use Rattle.emdf_edit.specs.Sequences.{Called}
 use Rattle.emdf_field_writer.proofs.Putting.{length-sync}
 use Rattle.emdf_field_writer.proofs.Written.{front-written}
 use Rattle.emdf_plan.proofs.Spliced.{Spliceable, plan-refused}

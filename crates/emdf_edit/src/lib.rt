@@ -2,11 +2,10 @@
 ghost use mathlib.Core.Path.{_≡_};
 ghost use Prim.Native.Nat.{_+_, _*_, _^_, _<_, _≤_};
 ghost use lib.ListN.{length};
-ghost use Rattle.emdf_format.specs.Edits.{bodyEdit, settingsEdit, dropEdit, insertEdit, keyEdit, protectionEdit};
+ghost use Rattle.emdf_format.specs.Edits.{bodyEdit, settingsEdit, dropEdit, insertEdit, keyEdit, protectionEdit, Called};
 ghost use Rattle.emdf_request.specs.Requests.{editOf, newBits};
 ghost use Rattle.emdf_plan.specs.Plan.{spliced};
 ghost use Rattle.emdf_field_writer.specs.Fields.{Room, Put};
-ghost use Rattle.emdf_edit.specs.Sequences.{Called};
 ghost use Rattle.emdf_edit.specs.Cuts.{Within};
 use emdf_format::EditAnswer;
 use emdf_format::EditError;

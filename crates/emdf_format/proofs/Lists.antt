@@ -5,14 +5,16 @@ use mathlib.Core.List.{List, [], _∷_, _++_, append-nil}
 use mathlib.Core.Logic.{_↔_}
 use Prim.Native.Nat.{ℕ, zero, suc, _+_, _≤_}
 use native.Mathlib.Omega.{arith}
-use lib.ListN.{length, take, drop}
+use lib.ListN.{length, take, drop, length-append, length-drop}
 use lib.Seq.{take-at, take-length}
 use lib.Dec.{T, leb, ltb, eqb, leb→le, le→leb, lt→ltb, eqb-refl}
 use Rattle.openjoc_bitio.specs.Choice.{if_then_else_}
+use Rattle.openjoc_bitio.specs.declared.ByteCount.{ByteCount}
 use Rattle.emdf_format.specs.declared.EditError.{EditError}
+use Rattle.emdf_format.specs.declared.EditAnswer.the-variants.{Written}
 use Rattle.emdf_format.specs.Syntax.{mostDeclared}
 use Rattle.emdf_format.specs.Contents.{Payload, Contents, writable, declared, carrier, allBytes, bodiesAreBytes, contentsAreBytes}
-use Rattle.emdf_format.specs.Reading.{Container, accepted, reading, contentsOf}
+use Rattle.emdf_format.specs.Reading.{Container, Reading, accepted, refusal, reading, contentsOf}
 use Rattle.emdf_format.specs.Calls.{inTable}
 use Rattle.emdf_format.specs.Edits.{Edit, bodyEdit, settingsEdit, dropEdit, insertEdit, keyEdit, protectionEdit, withAt, withBody, withConfig, withPayloads, change, placeExists, Stepped, changed, unchanged, carrierLength, inRoom, stepTo, step, stepAnswer, stepContents, written, stepFrom, edited, Call, nextSource, done, leaves, answers, eventOf, events, outcome, plainContents, plainAnswers, Bytes, EditBytes, CallsBytes, ReadsAs, EqualityOfCarriers}
 use Rattle.emdf_format.proofs.Standing.{T-of, if-yes, both, and}
@@ -48,7 +50,7 @@ length-found p [] = refl
 length-found p (x ∷ xs) = ap suc (length-found _ xs)
 
 -- equal contents, equal bytes; and the other way
-carries-same : {s s′ : List ℕ} {c c′ : Contents} → Carries s c → Carries s′ c′ → (s ≡ s′) ↔ (c ≡ c′)
+pub carries-same : {s s′ : List ℕ} {c c′ : Contents} → Carries s c → Carries s′ c′ → (s ≡ s′) ↔ (c ≡ c′)
 carries-same {s} {s′} {c} {c′} k k′ = (
   (λ e. carrier-injective c c′ (k .fit) (k′ .fit) (k .bytes) (k′ .bytes) (k .small) (k′ .small) (sym (k .is) ∙ e ∙ k′ .is)),
   λ e. rw (k .is, k′ .is, e),
@@ -143,6 +145,29 @@ changes e room c d h =
       fits = leb→le (carrierLength (change e c)) room (T-of fits);
     })
 
+-- ---- a destination keeps its length, and what is written lies in it
+
+from-fits : (r : Reading) (len room : ℕ) (e : Edit) (d : Contents) → stepFrom r len e room ≡ changed d → carrierLength d ≤ room
+unfolding stepFrom
+from-fits (accepted n k) len room e d h = changes e room (contentsOf k) d (asked (eqb n len) _ _ h .1) .fits
+from-fits (refusal why) len room e d h = absurd (let z : _≡_ {A = ℕ} 0 1 = cc in omega arith)
+
+pub keeps-length : (e : Edit) (src dst : List ℕ) → length (edited e src dst .destination) ≡ length dst
+unfolding edited written
+keeps-length e src dst = by (stepFrom (reading src) (length src) e (length dst)) refl
+  where
+    by : (o : Stepped) → stepFrom (reading src) (length src) e (length dst) ≡ o → length (written o dst) ≡ length dst
+    by (changed d) h = rw (length-append, length-carrier d, length-drop) (omega (arith, from-fits (reading src) (length src) (length dst) e d h))
+    by (unchanged why) h = refl
+
+pub in-room : (e : Edit) (src dst : List ℕ) (n : ByteCount) → edited e src dst .answer ≡ Written n → n .0 ≤ length dst
+unfolding edited stepAnswer
+in-room e src dst n = by (stepFrom (reading src) (length src) e (length dst)) refl
+  where
+    by : (o : Stepped) → stepFrom (reading src) (length src) e (length dst) ≡ o → stepAnswer o ≡ Written n → n .0 ≤ length dst
+    by (changed d) h k = let z : record { 0 = carrierLength d } ≡ n = cc in rw (← z) (from-fits (reading src) (length src) (length dst) e d h)
+    by (unchanged why) h k = absurd (let z : _≡_ {A = ℕ} 0 1 = cc in omega arith)
+
 -- an edit of a carrier is the step of its contents
 stepped-is : (e : Edit) {s : List ℕ} {c : Contents} (room : ℕ) → Carries s c → stepFrom (reading s) (length s) e room ≡ step e room c
 unfolding stepFrom
@@ -166,7 +191,7 @@ pub record Followed (s : List ℕ) (c : Contents) (t : Call) : Type 0 where
   pub left : Carries (done s t .left) (outcome c (eventOf t) .contents)
   pub answered : done s t .answer ≡ outcome c (eventOf t) .answer
 
-followed : (s : List ℕ) (c : Contents) (t : Call) → EditBytes (t .edit) → Carries s c → Followed s c t
+pub followed : (s : List ℕ) (c : Contents) (t : Call) → EditBytes (t .edit) → Carries s c → Followed s c t
 unfolding done outcome edited
 followed s c t b k =
     let room = length (t .destination) in

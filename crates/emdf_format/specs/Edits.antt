@@ -114,6 +114,10 @@ edited e src dst =
 abbrev pub Gives : Edited → EditAnswer → List ℕ → Type 0
 Gives e answer exit = (answer ≡ e .answer) × (exit ≡ e .destination)
 
+-- what each of the six calls promises
+abbrev pub Called : Edit → List ℕ → List ℕ → EditAnswer → List ℕ → Type 0
+Called e src dst = Gives (edited e src dst)
+
 -- the blank carrier: 17 and 19
 abbrev pub blankContents : ℕ → List ℕ → List ℕ → Contents
 blankContents i a b = record { key-id = i; payloads = []; primary = a; secondary = b }

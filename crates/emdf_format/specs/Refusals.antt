@@ -1,12 +1,13 @@
 -- Each refusal's number and figures: the scope's list of questions. Assumes nothing.
 use Rattle.openjoc_bitio.specs.declared.BitError.the-variants.{EndOfInput, InvalidWidth}
-use Rattle.emdf_format.specs.Types.{EmdfError, RecordsError, JocProfileError, BodyError, EditError, Refusal, Figures}
+use Rattle.emdf_format.specs.Types.{EmdfError, RecordsError, JocProfileError, BodyError, EditError, RecipeError, Refusal, Figures}
 use Rattle.emdf_format.specs.declared.TruncatedPart.the-variants as TruncatedPart
 use Rattle.emdf_format.specs.declared.EmdfError.the-variants.{TruncatedContainer, InvalidSyncword, Bit, InvalidVariableBits, VariableBitsGroupLimit, ValueOverflow, UnsupportedVersion, NonzeroReservedData, ReservedPrimaryProtectionLength, ExcessPadding, NonzeroPadding}
 use Rattle.emdf_format.specs.declared.RecordsError.the-variants as RecordsError
 use Rattle.emdf_format.specs.declared.JocProfileError.the-variants as JocProfileError
 use Rattle.emdf_format.specs.declared.BodyError.the-variants as BodyError
 use Rattle.emdf_format.specs.declared.EditError.the-variants as EditError
+use Rattle.emdf_format.specs.declared.RecipeError.the-variants as RecipeError
 use Rattle.emdf_format.specs.declared.Refusal.the-variants.{Bare, One, Two}
 
 abbrev pub refusalOf : EmdfError → Refusal
@@ -45,6 +46,10 @@ editRefusal EditError.NotWritable = Bare 17
 editRefusal EditError.TooLong = Bare 18
 editRefusal (EditError.DestinationTooShort needed) = One 19 (needed .0)
 editRefusal EditError.TrailingData = Bare 20
+
+abbrev pub recipeRefusal : RecipeError → Refusal
+recipeRefusal RecipeError.BrokenChain = Bare 22
+recipeRefusal RecipeError.InvalidRecord = Bare 23
 
 -- the number, and two figures, zeros where it has none
 abbrev pub figuresOf : Refusal → Figures

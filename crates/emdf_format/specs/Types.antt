@@ -20,3 +20,4 @@ pub use Rattle.emdf_format.specs.declared.JocProfileError.{JocProfileErr
 pub use Rattle.emdf_format.specs.declared.JocProfileAnswer.{JocProfileAnswer}
 pub use Rattle.emdf_format.specs.declared.EditError.{EditError}
 pub use Rattle.emdf_format.specs.declared.EditAnswer.{EditAnswer}
+pub use Rattle.emdf_format.specs.declared.RecipeError.{RecipeError}

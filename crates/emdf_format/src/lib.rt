@@ -215,3 +215,9 @@ pub enum EditAnswer {
     Written(ByteCount),
     Refused(EditError),
 }
+
+// Why a recipe of edits is not run.
+pub enum RecipeError {
+    BrokenChain,
+    InvalidRecord,
+}

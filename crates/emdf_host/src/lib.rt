@@ -7,11 +7,13 @@ ghost use Rattle.openjoc_emdf.specs.Answers.{classAnswer};
 ghost use Rattle.emdf_answers.specs.Form.{version};
 ghost use Rattle.emdf_answers.specs.Bits.{BitReplies, newReply, remainingReply, readBitsReply, readBitReply, takeBitsReply, byteAlignReply};
 ghost use Rattle.emdf_answers.specs.Fields.{variableBitsReply};
-ghost use Rattle.emdf_answers.specs.Replies.{Replies};
+ghost use Rattle.emdf_answers.specs.Replies.{twoReply, Replies};
 ghost use Rattle.emdf_answers.specs.Carriers.{readInto, ReadReplies, classReply, MoveReplies};
 ghost use Rattle.emdf_answers.specs.Verdict.{profileOf, verdictReply};
 ghost use Rattle.emdf_answers.specs.Edits.{EditReplies};
 ghost use Rattle.emdf_settings_bytes.specs.Settings.{settingsOf};
+ghost use Rattle.emdf_recipe.specs.File.{recipeOf, checkAnswer};
+ghost use Rattle.emdf_recipe_bytes.specs.Recipes.{checkedFigures, RecipeReplies};
 use emdf_format::RecordsError;
 use openjoc_bitio::BitCursor;
 use openjoc_emdf::OpenAnswer;
@@ -294,4 +296,28 @@ pub extern "C" fn emdf_blank(
 {
     let edited = emdf_blank::blank_carrier(key, primary, secondary, destination);
     emdf_rows::put_edited(answer, edited)
+}
+
+// Whether a file is a recipe, and of how many edits.
+#[no_mangle]
+pub extern "C" fn emdf_check_recipe(recipe: &[u8], answer: &mut [u8; 16]) -> u32
+    ensures { λ r. ⌜ Replies (twoReply (checkedFigures (checkAnswer (recipeOf (now (recipe .entry)))))) r (now (answer .exit)) ⌝ }
+{
+    let checked = emdf_recipe::check_recipe(recipe);
+    emdf_recipe_bytes::put_checked(answer, checked)
+}
+
+// The edits of a recipe, one after another from the source on, in the two buffers by turns.
+#[no_mangle]
+pub extern "C" fn emdf_run_recipe(
+    source: &[u8],
+    recipe: &[u8],
+    first: &mut [u8],
+    second: &mut [u8],
+    answer: &mut [u8; 24],
+) -> u32
+    ensures { λ r. ⌜ RecipeReplies (now (source .entry)) (now (recipe .entry)) (now (first .entry)) (now (second .entry)) r (now (answer .exit)) (now (first .exit)) (now (second .exit)) ⌝ }
+{
+    let ran = emdf_recipe_run::run_recipe(source, recipe, first, second);
+    emdf_recipe_bytes::put_ran(answer, ran)
 }

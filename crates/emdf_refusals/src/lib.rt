@@ -1,11 +1,12 @@
 // Each refusal's number in the scope, and its figures: a new refusal is a line here and a line in its definition.
 ghost use mathlib.Core.Path.{_≡_};
-ghost use Rattle.emdf_format.specs.Refusals.{refusalOf, recordsRefusal, profileRefusal, bodyRefusal, editRefusal, figuresOf};
+ghost use Rattle.emdf_format.specs.Refusals.{refusalOf, recordsRefusal, profileRefusal, bodyRefusal, editRefusal, recipeRefusal, figuresOf};
 use emdf_format::BodyError;
 use emdf_format::EditError;
 use emdf_format::EmdfError;
 use emdf_format::Figures;
 use emdf_format::JocProfileError;
+use emdf_format::RecipeError;
 use emdf_format::RecordsError;
 use emdf_format::Refusal;
 use emdf_format::TruncatedPart;
@@ -91,6 +92,15 @@ pub fn edit_refusal(why: EditError) -> Refusal
         EditError::TooLong => Refusal::Bare(18),
         EditError::DestinationTooShort { needed } => Refusal::One(19, needed.0 as u64),
         EditError::TrailingData => Refusal::Bare(20),
+    }
+}
+
+pub fn recipe_refusal(why: RecipeError) -> Refusal
+    ensures { λ r. ⌜ r ≡ recipeRefusal why ⌝ }
+{
+    match why {
+        RecipeError::BrokenChain => Refusal::Bare(22),
+        RecipeError::InvalidRecord => Refusal::Bare(23),
     }
 }
 

@@ -117,7 +117,7 @@ pub fn put_moved(answer: &mut [u8; 16], moved: BodyAnswer) -> u32
     put_two(answer, emdf_answers::move_figures(moved))
 }
 
-fn put_two(answer: &mut [u8; 16], f: Figures) -> u32
+pub fn put_two(answer: &mut [u8; 16], f: Figures) -> u32
     ensures { λ r. ⌜ Replies (twoReply f) r (now (answer .exit)) ⌝ }
 {
     let values = [f.first, f.second];

@@ -28,6 +28,10 @@ pub mod plain;
 pub mod profile;
 #[path = "cases/random.rs"]
 pub mod random;
+#[path = "model/recipe.rs"]
+pub mod recipe;
+#[path = "cases/recipes.rs"]
+pub mod recipes;
 #[path = "model/run.rs"]
 pub mod run;
 #[path = "cases/scripts.rs"]
@@ -36,6 +40,8 @@ pub mod scripts;
 pub mod shapes;
 #[path = "cases/steps.rs"]
 pub mod steps;
+#[path = "cases/turns.rs"]
+pub mod turns;
 #[path = "oracle/verdict.rs"]
 pub mod verdict;
 #[path = "model/written.rs"]

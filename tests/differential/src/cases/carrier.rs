@@ -23,9 +23,11 @@ pub const SCRATCH_TOO_SHORT: u32 = 19;
 pub const DESTINATION_TOO_SHORT: u32 = 19;
 pub const BYTES_AFTER: u32 = 20;
 pub const HEADER_CUT: u32 = 21;
+pub const BROKEN_CHAIN: u32 = 22;
+pub const INVALID_RECORD: u32 = 23;
 
 /// The numbers that a call can return, 0 among them.
-pub const NUMBERS: usize = 22;
+pub const NUMBERS: usize = 24;
 
 pub const SYNC_WORD: u16 = 0x5838;
 
@@ -52,6 +54,8 @@ pub const CLASS_WORDS: usize = 1 + SUMMARY_WORDS;
 pub const MOVE_WORDS: usize = 2;
 pub const VERDICT_WORDS: usize = 4;
 pub const EDIT_WORDS: usize = 2;
+pub const CHECK_WORDS: usize = 2;
+pub const RUN_WORDS: usize = 3;
 
 /// Those of the longest.
 pub const MOST_WORDS: usize = CLASS_WORDS;

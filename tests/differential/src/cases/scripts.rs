@@ -1,7 +1,6 @@
 //! Lists of edits in pairs: two ways to the same contents, and contents that differ in one thing.
 
 use crate::carrier::{HEADER, MOST_DECLARED};
-use crate::case::write_slice;
 use crate::contents::{Contents, Payload};
 use crate::limits::{self, LENGTHENING};
 use crate::noes;
@@ -9,7 +8,6 @@ use crate::plain::{self, Step};
 use crate::random::Random;
 use crate::shapes;
 use crate::steps::{self, KINDS};
-use std::fmt;
 
 /// A start and the edits from there, each with its destination's length.
 #[derive(Clone)]
@@ -197,7 +195,7 @@ impl Script {
 }
 
 /// Room for any carrier.
-const AMPLE: usize = HEADER + MOST_DECLARED;
+pub const AMPLE: usize = HEADER + MOST_DECLARED;
 
 /// Any edit; some name a place that there isn't, and one in eight is refused for its arguments.
 fn draw_step(contents: &Contents, random: &mut Random) -> Step {
@@ -383,7 +381,9 @@ fn other_setting(payload: &mut Payload, random: &mut Random) {
     }
 }
 
-fn body(place: usize, payload: &Payload) -> Step {
+/// The step that leaves the payload's body as it is.
+#[must_use]
+pub fn body(place: usize, payload: &Payload) -> Step {
     Step::Body {
         place,
         body: payload.body.clone(),
@@ -406,7 +406,9 @@ fn insert(place: usize, payload: &Payload) -> Step {
     }
 }
 
-fn key(contents: &Contents) -> Step {
+/// The step that leaves the key id as it is.
+#[must_use]
+pub fn key(contents: &Contents) -> Step {
     Step::Key {
         key_id: contents.key_id,
     }
@@ -419,22 +421,8 @@ fn protection(contents: &Contents) -> Step {
     }
 }
 
-fn shuffle<T>(all: &mut [T], random: &mut Random) {
+pub fn shuffle<T>(all: &mut [T], random: &mut Random) {
     for last in (1..all.len()).rev() {
         all.swap(last, random.up_to(last));
-    }
-}
-
-/// The list, as it stands in a report.
-impl fmt::Display for Script {
-    fn fmt(&self, formatter: &mut fmt::Formatter<'_>) -> fmt::Result {
-        let (start, _) = self.start.written();
-        write_slice(formatter, "start", &start)?;
-        for (step, destination) in &self.edits {
-            writeln!(formatter, "  then      {}", step.name())?;
-            write!(formatter, "{step}")?;
-            writeln!(formatter, "  room      {destination} bytes")?;
-        }
-        Ok(())
     }
 }

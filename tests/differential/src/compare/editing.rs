@@ -308,13 +308,11 @@ impl Desk {
 
 /// The first place where the destination is not as it has to be.
 fn destination_difference(written: &[u8], lent: &Lent) -> String {
-    let wanted = written.iter().chain(&lent.lent_before()[written.len()..]);
-    let mut bytes = wanted.zip(lent.lent()).enumerate();
-    match bytes.find(|(_, (wanted, is))| wanted != is) {
-        Some((byte, (wanted, is))) if byte < written.len() => format!(
+    match lent.wrong_byte(written) {
+        Some((byte, wanted, is)) if byte < written.len() => format!(
             "  plain     byte {byte} of the carrier: {wanted:02x}\n  library   byte {byte} of the carrier: {is:02x}\n"
         ),
-        Some((byte, _)) => {
+        Some((byte, ..)) => {
             format!("  library   changed byte {byte} of the destination, which had to stay\n")
         }
         None => "  library   wrote beside its destination\n".to_string(),

@@ -500,7 +500,7 @@ fn damaged_sources(
 }
 
 /// One byte more, several, and the carrier once more.
-fn with_bytes_after(carrier: &[u8], random: &mut Random) -> [Vec<u8>; 4] {
+pub fn with_bytes_after(carrier: &[u8], random: &mut Random) -> [Vec<u8>; 4] {
     let more = 1 + random.up_to(40);
     [
         vec![0],

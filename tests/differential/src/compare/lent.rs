@@ -16,10 +16,16 @@ pub struct Lent {
 impl Lent {
     #[must_use]
     pub fn new() -> Self {
+        Self::with_noise(0)
+    }
+
+    /// With other bytes in it, so that what comes from other memory is seen.
+    #[must_use]
+    pub fn with_noise(seed: u64) -> Self {
         Self {
             bytes: Vec::new(),
             before: Vec::new(),
-            noise: Random::new(0),
+            noise: Random::new(seed),
             length: 0,
         }
     }
@@ -49,6 +55,15 @@ impl Lent {
         self.lent().starts_with(written)
             && self.bytes[rest.clone()] == self.before[rest]
             && self.bytes[..MARGIN] == self.before[..MARGIN]
+    }
+
+    /// The first of the call's own bytes that is not as it has to be: its place, and what it has to be and is.
+    #[must_use]
+    pub fn wrong_byte(&self, written: &[u8]) -> Option<(usize, u8, u8)> {
+        let wanted = written.iter().chain(&self.lent_before()[written.len()..]);
+        let mut bytes = wanted.zip(self.lent()).enumerate();
+        let wrong = bytes.find(|(_, (wanted, is))| wanted != is);
+        wrong.map(|(byte, (wanted, is))| (byte, *wanted, *is))
     }
 
     /// The call's own bytes, as they are now.

@@ -7,10 +7,12 @@ use crate::guard::Input;
 use crate::lent::Lent;
 use crate::trials;
 use differential::carrier::{
-    self, Ask, Asked, Reply, CLASS_WORDS, EDIT_WORDS, MOVE_WORDS, SUMMARY_WORDS, VERDICT_WORDS,
+    self, Ask, Asked, Reply, CHECK_WORDS, CLASS_WORDS, EDIT_WORDS, MOVE_WORDS, RUN_WORDS,
+    SUMMARY_WORDS, VERDICT_WORDS,
 };
 use differential::case::{Answer, Call, Described, Form, Request, BIT_WORDS};
 use differential::plain::Edit;
+use differential::recipe;
 use std::borrow::Cow;
 
 extern "C" {
@@ -78,6 +80,18 @@ extern "C" {
         answer: *mut u8,
     ) -> u32;
     fn emdf_verdict(bytes: *const u8, length: usize, profile: u32, answer: *mut u8) -> u32;
+    fn emdf_check_recipe(recipe: *const u8, recipe_length: usize, answer: *mut u8) -> u32;
+    fn emdf_run_recipe(
+        source: *const u8,
+        source_length: usize,
+        recipe: *const u8,
+        recipe_length: usize,
+        first: *mut u8,
+        first_length: usize,
+        second: *mut u8,
+        second_length: usize,
+        answer: *mut u8,
+    ) -> u32;
 }
 
 /// What the library returned and wrote.
@@ -205,6 +219,34 @@ pub fn edit(edit: &Edit, slices: [&[u8]; 2], lent: &mut Lent) -> Replied {
     // SAFETY: all slices and the destination are alive, and the answer has the bytes it wants.
     crash::during(edit, || unsafe {
         replied::<EDIT_WORDS>(|answer| exported::edit(source, step, slices, memory, answer))
+    })
+}
+
+/// Makes one call on a recipe; its slices are handed over from where they lie.
+#[must_use]
+pub fn recipe(asked: &recipe::Asked, buffers: &mut [Lent; 2]) -> Replied {
+    let (file, length) = (asked.file.as_ptr(), asked.file.len());
+    let [first, second] = buffers;
+    let rooms = asked.rooms();
+    let [first, second] = [first.lend(rooms[0]), second.lend(rooms[1])];
+    // SAFETY: all slices and both buffers are alive, and each answer has the bytes it wants.
+    crash::during(asked, || unsafe {
+        match asked.run {
+            None => replied::<CHECK_WORDS>(|answer| emdf_check_recipe(file, length, answer)),
+            Some((source, _)) => replied::<RUN_WORDS>(|answer| {
+                emdf_run_recipe(
+                    source.as_ptr(),
+                    source.len(),
+                    file,
+                    length,
+                    first,
+                    rooms[0],
+                    second,
+                    rooms[1],
+                    answer,
+                )
+            }),
+        }
     })
 }
 

@@ -10,6 +10,7 @@ mod edits;
 mod examine;
 mod exported;
 mod fields;
+mod following;
 mod frame;
 mod guard;
 mod judge;
@@ -18,6 +19,9 @@ mod library;
 #[path = "../model/model.rs"]
 mod model;
 mod reached;
+mod recipe_mistakes;
+mod recipes;
+mod recipes_reached;
 mod report;
 mod runs;
 mod self_check;
@@ -32,7 +36,7 @@ use report::{Group, Tally};
 use std::process::ExitCode;
 
 /// Each part's groups, run in this order.
-const PARTS: [&[Group]; 9] = [
+const PARTS: [&[Group]; 10] = [
     &bits::GROUPS,
     &fields::GROUPS,
     &runs::GROUPS,
@@ -42,10 +46,11 @@ const PARTS: [&[Group]; 9] = [
     &edits::GROUPS,
     &edit_lists::GROUPS,
     &sparse::GROUPS,
+    &recipes::GROUPS,
 ];
 
 /// The parts whose groups have to catch the mistakes of the self-check.
-const PARTS_OF_EDITS: std::ops::Range<usize> = 6..8;
+const PARTS_OF_EDITS: [&[Group]; 3] = [&edits::GROUPS, &edit_lists::GROUPS, &recipes::GROUPS];
 
 fn main() -> ExitCode {
     let options = match Options::parse(std::env::args().skip(1)) {
@@ -57,7 +62,7 @@ fn main() -> ExitCode {
     };
     crash::watch();
     if options.self_check {
-        return self_check::run(&PARTS[PARTS_OF_EDITS], &options);
+        return self_check::run(&PARTS_OF_EDITS, &options);
     }
     let mut failed = Vec::new();
     for (group, stream) in PARTS.into_iter().flatten().zip(0..) {

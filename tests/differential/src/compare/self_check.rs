@@ -2,6 +2,7 @@
 
 use crate::lent::Lent;
 use crate::library::Replied;
+use crate::recipe_mistakes::{self, Fault};
 use crate::report::{Difference, Group, Tally};
 use crate::shrink;
 use differential::carrier::{
@@ -23,12 +24,14 @@ use std::time::Duration;
 pub type Player = fn(&Edit) -> Played;
 
 pub struct Played {
-    reply: Reply,
-    written: Vec<u8>,
+    pub reply: Reply,
+    pub written: Vec<u8>,
 }
 
 thread_local! {
     static PLAYER: Cell<Option<Player>> = const { Cell::new(None) };
+    /// What the one who plays it does wrong with recipes.
+    static FAULT: Cell<Option<Fault>> = const { Cell::new(None) };
     /// Whether the player that makes one edit only has made it.
     static MADE_ONE: Cell<bool> = const { Cell::new(false) };
 }
@@ -37,6 +40,12 @@ thread_local! {
 #[must_use]
 pub fn player() -> Option<Player> {
     PLAYER.get()
+}
+
+/// How recipes are followed, if not by the library.
+#[must_use]
+pub fn fault() -> Option<Fault> {
+    FAULT.get()
 }
 
 /// How long a difference is shrunk; one that was looked for is not printed.
@@ -239,6 +248,7 @@ pub fn run(parts: &[&[Group]], options: &Options) -> ExitCode {
     let groups: Vec<&Group> = parts.iter().copied().flatten().collect();
     let mut failed = false;
     PLAYER.set(Some(faithful));
+    FAULT.set(Some(Fault::None));
     for group in &groups {
         let (tally, difference) = ran(group, options);
         let too_rare = tally.too_rare();
@@ -253,19 +263,15 @@ pub fn run(parts: &[&[Group]], options: &Options) -> ExitCode {
     }
     for mistake in &MISTAKES {
         PLAYER.set(Some(mistake.player));
-        for name in mistake.caught_by {
-            let group = groups.iter().find(|group| group.name == *name);
-            let (tally, difference) = ran(group.expect("a group of this name"), options);
-            let said = match difference {
-                Some(_) => "caught",
-                None => "NOT CAUGHT",
-            };
-            failed |= difference.is_none();
-            let cases = tally.cases();
-            println!("{}: {said} after {cases} cases: {name}", mistake.name);
-        }
+        failed |= !is_caught(mistake.name, mistake.caught_by, &groups, options);
+    }
+    PLAYER.set(Some(faithful));
+    for mistake in &recipe_mistakes::MISTAKES {
+        FAULT.set(Some(mistake.fault));
+        failed |= !is_caught(mistake.name, mistake.caught_by, &groups, options);
     }
     PLAYER.set(None);
+    FAULT.set(None);
     if failed {
         println!("differential: self-check FAILED");
         ExitCode::FAILURE
@@ -273,6 +279,23 @@ pub fn run(parts: &[&[Group]], options: &Options) -> ExitCode {
         println!("differential: each mistake was caught");
         ExitCode::SUCCESS
     }
+}
+
+/// Runs the groups of these names against the mistake that is now made.
+fn is_caught(mistake: &str, names: &[&str], groups: &[&Group], options: &Options) -> bool {
+    let mut is_caught = true;
+    for name in names {
+        let group = groups.iter().find(|group| group.name == *name);
+        let (tally, difference) = ran(group.expect("a group of this name"), options);
+        let said = match difference {
+            Some(_) => "caught",
+            None => "NOT CAUGHT",
+        };
+        is_caught &= difference.is_some();
+        let cases = tally.cases();
+        println!("{mistake}: {said} after {cases} cases: {name}");
+    }
+    is_caught
 }
 
 fn ran(group: &Group, options: &Options) -> (Tally, Option<Difference>) {
@@ -311,7 +334,9 @@ fn reading(edit: &Edit) -> Reading {
     facts::reading(edit.source)
 }
 
-fn faithful(edit: &Edit) -> Played {
+/// The plain contents' answer and carrier.
+#[must_use]
+pub fn faithful(edit: &Edit) -> Played {
     Played::after(&edit.after(&reading(edit)))
 }
 

@@ -5,6 +5,7 @@ use differential::case::{Cursor, Request};
 use differential::contents::{Contents, Settings};
 use differential::facts;
 use differential::plain::{self, Edit, Step};
+use differential::recipe::{self, Asked};
 use std::ops::Range;
 use std::time::{Duration, Instant};
 
@@ -391,6 +392,109 @@ fn smaller_steps(step: &Step) -> impl Iterator<Item = Step> + '_ {
         .chain(numbers)
         .chain(firsts.map(move |first| with_slices(step, [first, second.to_vec()])))
         .chain(seconds.map(move |second| with_slices(step, [first.to_vec(), second])))
+}
+
+/// A recipe and, where it is run, the source and the lengths of the buffers.
+#[derive(Clone)]
+pub struct RecipeCase {
+    pub file: Vec<u8>,
+    pub source: Vec<u8>,
+    pub rooms: Option<[usize; 2]>,
+}
+
+impl RecipeCase {
+    #[must_use]
+    pub fn new(asked: &Asked) -> Self {
+        let source = asked.run.map(|(source, _)| source.to_vec());
+        Self {
+            file: asked.file.to_vec(),
+            source: source.unwrap_or_default(),
+            rooms: asked.run.map(|(_, rooms)| rooms),
+        }
+    }
+
+    #[must_use]
+    pub fn asked(&self) -> Asked<'_> {
+        Asked {
+            file: &self.file,
+            run: self.rooms.map(|rooms| (&self.source[..], rooms)),
+        }
+    }
+}
+
+/// Less in the file first, then in the source, then shorter buffers.
+pub fn smaller_recipes(case: &RecipeCase) -> Smaller<'_, RecipeCase> {
+    let file = &case.file;
+    let files = with_smaller_edits(file)
+        .chain(cut(file))
+        .chain(zeroed(file))
+        .chain(cleared(file))
+        .map(|file| RecipeCase {
+            file,
+            ..case.clone()
+        });
+    let sources = smaller_bytes(&case.source).flat_map(|source| {
+        // Buffers as much too long or too short as before, or as they are.
+        let less = case.source.len().saturating_sub(source.len());
+        let rooms = case
+            .rooms
+            .map(|rooms| rooms.map(|room| room.saturating_sub(less)));
+        [rooms, case.rooms].map(|rooms| RecipeCase {
+            file: case.file.clone(),
+            source: source.clone(),
+            rooms,
+        })
+    });
+    Box::new(files.chain(sources).chain(with_shorter_buffers(case)))
+}
+
+fn with_shorter_buffers(case: &RecipeCase) -> impl Iterator<Item = RecipeCase> + '_ {
+    let buffers = case
+        .rooms
+        .into_iter()
+        .flat_map(|rooms| [(rooms, 0), (rooms, 1)]);
+    buffers.flat_map(move |(rooms, place)| {
+        amounts(rooms[place]).map(move |less| {
+            let mut shorter = rooms;
+            shorter[place] -= less;
+            RecipeCase {
+                rooms: Some(shorter),
+                ..case.clone()
+            }
+        })
+    })
+}
+
+/// A recipe that is in order, written anew from the same edits, from fewer, and from smaller ones.
+fn with_smaller_edits(file: &[u8]) -> impl Iterator<Item = Vec<u8>> + '_ {
+    let lists = recipe::edits(file).ok().into_iter().flat_map(smaller_lists);
+    let files = lists.filter_map(|list| recipe::written(&list));
+    files.filter(|smaller| size(smaller) < size(file))
+}
+
+/// Its bytes first, then the ones in them.
+fn size(file: &[u8]) -> (usize, u32) {
+    let ones = file.iter().map(|byte| byte.count_ones());
+    (file.len(), ones.sum())
+}
+
+fn smaller_lists(list: Vec<Step>) -> impl Iterator<Item = Vec<Step>> {
+    let (all, same) = (list.clone(), list.clone());
+    let fewer = runs(0..all.len()).map(move |run| {
+        let mut fewer = all.clone();
+        fewer.drain(run);
+        fewer
+    });
+    let smaller = (0..list.len()).flat_map(move |place| {
+        let steps: Vec<Step> = smaller_steps(&list[place]).collect();
+        let list = list.clone();
+        steps.into_iter().map(move |step| {
+            let mut smaller = list.clone();
+            smaller[place] = step;
+            smaller
+        })
+    });
+    [same].into_iter().chain(fewer).chain(smaller)
 }
 
 fn at_place(step: &Step, to: usize) -> Step {

@@ -70,7 +70,7 @@ pub const GROUPS: [Group; 2] = [
 ];
 
 /// Around what a number of 32 bits can count.
-const LENGTHS: [usize; 3] = [(1 << 32) - 1, 1 << 32, (1 << 32) + 5];
+pub const LENGTHS: [usize; 3] = [(1 << 32) - 1, 1 << 32, (1 << 32) + 5];
 
 /// How many bits on either side of an edge are tried, and how many bytes there are not zero.
 const NEAR: usize = 70;

@@ -1,0 +1,4 @@
+pub mod Requests
+pub mod Runs
+pub mod Plain
+pub mod Operations
