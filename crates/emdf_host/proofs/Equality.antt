@@ -18,7 +18,7 @@ use Rattle.emdf_format.specs.declared.EditAnswer.the-variants.{Written, Refused
 use Rattle.emdf_format.specs.Contents.{Contents}
 use Rattle.emdf_format.specs.Refusals.{editRefusal, figuresOf}
 use Rattle.emdf_format.specs.Reading.{Reading, accepted, refusal, reading, contentsOf}
-use Rattle.emdf_format.specs.Edits.{Edit, Stepped, changed, unchanged, carrierLength, step, stepAnswer, stepFrom, edited, nextSource}
+use Rattle.emdf_format.specs.Edits.{Edit, Stepped, changed, unchanged, carrierLength, stepAnswer, stepFrom, edited, nextSource}
 use Rattle.emdf_format.proofs.Lists.{changes}
 use Rattle.emdf_answers.specs.Form.{words}
 use Rattle.emdf_answers.specs.Edits.{editedFigures}
@@ -27,12 +27,11 @@ use Rattle.emdf_format.specs.declared.RecipeError.the-variants.{BrokenChain, In
 use Rattle.emdf_recipe.specs.File.{Recipe, edits, wrong, recipeOf}
 use Rattle.emdf_recipe_run.specs.declared.Holder.{Holder}
 use Rattle.emdf_recipe_run.specs.declared.Holder.the-variants.{Start, First, Second}
-use Rattle.emdf_recipe_run.specs.declared.RecipeAnswer.the-variants as RecipeAnswer
 use Rattle.emdf_recipe_run.specs.Runs.{Run, source, other, counted, held, aim, ranEdit, ranEdits, begunAnswer, begun, runOf, answerOf}
 use Rattle.emdf_recipe_run.specs.Operations.{Operation, OperationAnswer, editAnswer, recipeAnswer, leftBy, Performed}
 use Rattle.emdf_recipe_run.specs.Operations as Operations
 use Rattle.emdf_recipe_run.proofs.Operations.{equality-of-operations}
-use Rattle.emdf_recipe_bytes.specs.Recipes.{holderNumber, ranReply, RecipeReplies}
+use Rattle.emdf_recipe_bytes.specs.Recipes.{holderNumber, ranReply}
 use Rattle.emdf_host.specs.Sequences.{nextCarrier, sliceOf, heldCarrier, Told, replyOf, toldAll, HostRan, none, edit, recipe, EqualityOfHostCalls}
 
 -- ---- a carrier's length fits into the answer's first number

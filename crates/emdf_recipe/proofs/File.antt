@@ -6,8 +6,8 @@ use Prim.Native.Nat.{ℕ, zero, suc, _+_, _-_, _*_, _/_, _%_, _^_, _<_, _≤_}
 use native.Mathlib.Nat.{add-zero, mul-one}
 use native.Mathlib.Omega.{arith}
 use native.Mathlib.Decide.{ℕ-discrete}
-use lib.ListN.{length, take, drop}
-use lib.Dec.{leb, ltb, eqb}
+use lib.ListN.{length}
+use lib.Dec.{leb, eqb}
 use lib.Pow.{high}
 use borrow.Author.Tests.{ltb-true, leb-true, eqb-true, eq-eqb, ne-eqb, le-leb}
 use Rattle.openjoc_bitio.specs.Choice.{if_then_else_}
@@ -20,7 +20,6 @@ use Rattle.emdf_format.specs.declared.RecipeError.the-variants.{BrokenChain, In
 use Rattle.emdf_recipe.specs.declared.RecipeRecord.{RecipeRecord}
 use Rattle.emdf_recipe.specs.declared.Link.{Link}
 use Rattle.emdf_recipe.specs.declared.Link.the-variants.{Next, Broken}
-use Rattle.emdf_recipe.specs.declared.CheckAnswer.{CheckAnswer}
 use Rattle.emdf_recipe.specs.declared.CheckAnswer.the-variants.{Edits, Refused}
 use Rattle.emdf_recipe.specs.File.{octetsNumber, firstIndex, recordCount, bodyKind, dropKind, keyKind, recordAt, recordEdit, nextAllowed, recordAllowed, linkOf, Recipe, edits, wrong, prepend, follow, chain, recipeOf, editsAfter, checkAnswer}
 
@@ -39,13 +38,12 @@ window-number s at n h = let z : at * 8 % 8 ≡ 0 = omega arith in rw (z, mul-on
 -- what a record's numbers can be
 pub record Small (e : RecipeRecord) : Type 0 where
   pub next : e .next < 65536
-  pub place : e .place < 4294967296
   pub offset : e .offset < 4294967296
   pub size : e .length < 4294967296
 
 pub record-small : (s : List ℕ) (i : ℕ) → Small (recordAt s i)
 unfolding recordAt
-record-small s i = record { next = value-range s _ 16; place = value-range s _ 32; offset = value-range s _ 32; size = value-range s _ 32 }
+record-small s i = record { next = value-range s _ 16; offset = value-range s _ 32; size = value-range s _ 32 }
 
 -- ---- a record's questions
 

@@ -12,7 +12,7 @@ use Rattle.emdf_recipe_run.specs.declared.Holder.{Holder}
 use Rattle.emdf_recipe_run.specs.declared.Holder.the-variants.{Start, First, Second}
 use Rattle.emdf_recipe_run.specs.declared.RecipeAnswer.{RecipeAnswer}
 use Rattle.emdf_recipe_run.specs.declared.RecipeAnswer.the-variants as RecipeAnswer
-use Rattle.emdf_recipe_run.specs.Runs.{Run, runOf, answerOf}
+use Rattle.emdf_recipe_run.specs.Runs.{runOf, answerOf}
 
 -- accepted: how many edits
 abbrev pub checkedFigures : CheckAnswer → Figures

@@ -11,7 +11,7 @@ use Rattle.emdf_format.specs.Reading.{reserved, sampleOffset, codecData, config
 use Rattle.emdf_format.specs.Edits.{bodyEdit, dropEdit, withAt, withPayloads, change, placeExists, inRoom, stepTo, step, stepAnswer, written, stepFrom, edited}
 use Rattle.emdf_recipe.specs.File.{edits}
 use Rattle.emdf_recipe_run.specs.declared.Holder.the-variants.{Second}
-use Rattle.emdf_recipe_run.specs.Runs.{source, target, other, firstAfter, secondAfter, counted, ranEdit, ranEdits, begunAnswer, begun, runOf}
+use Rattle.emdf_recipe_run.specs.Runs.{source, target, firstAfter, secondAfter, counted, ranEdit, ranEdits, begunAnswer, begun, runOf}
 
 -- the scope's carriers A and B, and B with an empty body
 abbrev A : List ℕ
@@ -32,5 +32,5 @@ eleven = 9 ∷ 9 ∷ 9 ∷ eight
 
 pub three-edits : runOf (edits (bodyEdit 0 [] ∷ dropEdit 1 ∷ dropEdit 0 ∷ [])) B eleven eight
     ≡ record { answer = record { holder = Second; length = record { 0 = 7 }; refused = 1 }; first = emptied ++ 9 ∷ []; second = A ++ 9 ∷ [] }
-unfolding bitAt bitsValue numberBits bitLength bitsRemaining readBits _⨟_ groupsBefore variableField countBefore groups escape extendedField octetBits flaggedField presentField _&_ iff isPresent isOne whenPresent upTo hasAligned hasPriority presentAsRuled writableConfig writablePayload writablePayloads protectionLength protectionCode codable writable extensionBits flaggedBits presentBits neededConfig neededPayload neededPayloads neededBits declared sampleOffsetBits codecDataBits configBits payloadBits payloadsBits protectionBits containerBits carrierBits bitsNumber bytesOf carrier andThen _>>=_ give ask choose position remaining fromBits bits groupsFrom variableBits extendedValue octets present flagged reserved sampleOffset codecData configControls payloadConfig payloadAfter payloads padding containerEnd container consumed reading payloadsOf withAt withPayloads change placeExists inRoom stepTo step stepAnswer written stepFrom edited source target other firstAfter secondAfter counted ranEdit ranEdits begunAnswer begun runOf
+unfolding bitAt bitsValue numberBits bitLength bitsRemaining readBits _⨟_ groupsBefore variableField countBefore groups escape extendedField octetBits flaggedField presentField _&_ iff isPresent isOne whenPresent upTo hasAligned hasPriority presentAsRuled writableConfig writablePayload writablePayloads protectionLength protectionCode codable writable extensionBits flaggedBits presentBits neededConfig neededPayload neededPayloads neededBits declared sampleOffsetBits codecDataBits configBits payloadBits payloadsBits protectionBits containerBits carrierBits bitsNumber bytesOf carrier andThen _>>=_ give ask choose position remaining fromBits bits groupsFrom variableBits extendedValue octets present flagged reserved sampleOffset codecData configControls payloadConfig payloadAfter payloads padding containerEnd container consumed reading payloadsOf withAt withPayloads change placeExists inRoom stepTo step stepAnswer written stepFrom edited source target firstAfter secondAfter counted ranEdit ranEdits begunAnswer begun runOf
 three-edits = refl

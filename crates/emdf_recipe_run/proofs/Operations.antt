@@ -1,8 +1,8 @@
 -- A recipe is a list of calls, and follows its plain run; so do lists in which edits and recipes alternate. Assumes nothing.
-use mathlib.Core.Path.{_≡_, refl, sym, ap, _∙_}
+use mathlib.Core.Path.{_≡_, refl, ap, _∙_}
 use mathlib.Core.Bool.{Bool, true, false}
 use mathlib.Core.List.{List, [], _∷_}
-use Prim.Native.Nat.{ℕ, zero, suc, _+_, _-_, _<_, _≤_}
+use Prim.Native.Nat.{ℕ, zero, suc, _+_, _<_, _≤_}
 use native.Mathlib.Omega.{arith}
 use lib.ListN.{length, getD, take, drop, length-take, List·getD-eq-default}
 use lib.Seq.{getD-take, getD-drop}
@@ -17,9 +17,9 @@ use Rattle.emdf_format.specs.declared.RecipeError.{RecipeError}
 use Rattle.emdf_format.specs.declared.RecipeError.the-variants.{BrokenChain}
 use Rattle.emdf_format.specs.Contents.{Contents}
 use Rattle.emdf_format.specs.Reading.{contentsOf}
-use Rattle.emdf_format.specs.Edits.{Edit, edited, Call, nextSource, done, leaves, answers, Event, eventOf, outcome, carrierLength, Bytes, EditBytes}
+use Rattle.emdf_format.specs.Edits.{Edit, Call, nextSource, done, leaves, answers, eventOf, carrierLength, Bytes, EditBytes}
 use Rattle.emdf_format.proofs.Bytes.{length-carrier}
-use Rattle.emdf_format.proofs.Lists.{Carries, carried, carries-same, reads-as, Followed, followed}
+use Rattle.emdf_format.proofs.Lists.{Carries, carried, carries-same, reads-as, followed}
 use Rattle.emdf_recipe.specs.declared.RecipeRecord.{RecipeRecord}
 use Rattle.emdf_recipe.specs.declared.Link.{Link}
 use Rattle.emdf_recipe.specs.declared.Link.the-variants.{Next, Broken}
@@ -28,10 +28,10 @@ use Rattle.emdf_recipe_run.specs.declared.Holder.{Holder}
 use Rattle.emdf_recipe_run.specs.declared.Holder.the-variants.{Start, First, Second}
 use Rattle.emdf_recipe_run.specs.declared.RunAnswer.{RunAnswer}
 use Rattle.emdf_recipe_run.specs.declared.RecipeAnswer.{RecipeAnswer}
-use Rattle.emdf_recipe_run.specs.declared.RecipeAnswer.the-variants.{Ran, Refused}
-use Rattle.emdf_recipe_run.specs.Runs.{Run, source, target, other, firstAfter, secondAfter, counted, held, aim, ranEdit, ranEdits, begunAnswer, begun, runOf, answerOf, RecipeCalled}
+use Rattle.emdf_recipe_run.specs.declared.RecipeAnswer.the-variants.{Refused}
+use Rattle.emdf_recipe_run.specs.Runs.{Run, source, target, firstAfter, secondAfter, counted, held, aim, ranEdit, ranEdits, begunAnswer, begun, runOf, answerOf, RecipeCalled}
 use Rattle.emdf_recipe_run.specs.Plain.{PlainRun, room, plainEdit, plainEdits, plainBegun, plainRecipe}
-use Rattle.emdf_recipe_run.specs.Operations.{callsFrom, countedAll, recipeCalls, RunsItsCalls, Operation, editCall, recipeCall, OperationAnswer, editAnswer, recipeAnswer, operationEvents, operationOutcome, contentsAfter, answersOf, OperationsBytes, leftBy, Performed, none, edit, recipe, EqualityOfOperations}
+use Rattle.emdf_recipe_run.specs.Operations.{callsFrom, countedAll, RunsItsCalls, Operation, OperationAnswer, operationEvents, operationOutcome, contentsAfter, answersOf, OperationsBytes, leftBy, Performed, none, edit, recipe, EqualityOfOperations}
 use Rattle.emdf_recipe_run.proofs.Runs.{kept-lengths}
 
 -- ---- a run is the run of its calls
@@ -39,7 +39,7 @@ use Rattle.emdf_recipe_run.proofs.Runs.{kept-lengths}
 next-at : (p : Holder) (n : ByteCount) (m : ℕ) (answer : EditAnswer) (dst start a b : List ℕ)
     → let q = counted (record { holder = p; length = n; refused = m }) answer in
     source (q .holder) (q .length .0) start (firstAfter p dst a) (secondAfter p dst b) ≡ nextSource (source p (n .0) start a b) answer dst
-unfolding counted other source firstAfter secondAfter nextSource
+unfolding counted source firstAfter secondAfter nextSource
 next-at Start n m (Written k) dst start a b = refl
 next-at First n m (Written k) dst start a b = refl
 next-at Second n m (Written k) dst start a b = refl

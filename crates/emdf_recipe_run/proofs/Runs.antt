@@ -1,32 +1,31 @@
 -- Laws on a run over two buffers. Assumes nothing.
-use mathlib.Core.Path.{_≡_, refl, sym, ap, _∙_}
+use mathlib.Core.Path.{_≡_, refl, ap, _∙_}
 use mathlib.Core.Bool.{Bool, true, false}
 use mathlib.Core.List.{List, []}
 use Prim.Native.Nat.{ℕ, _+_, _-_, _<_, _≤_}
 use native.Mathlib.Omega.{arith}
-use lib.ListN.{length, take, drop}
+use lib.ListN.{length}
 use lib.Dec.{eqb}
 use borrow.Author.Tests.{eqb-true, eqb-false}
-use Rattle.openjoc_bitio.specs.Choice.{if_then_else_}
 use Rattle.openjoc_bitio.specs.declared.ByteCount.{ByteCount}
 use Rattle.emdf_format.specs.declared.EditAnswer.{EditAnswer}
 use Rattle.emdf_format.specs.declared.EditAnswer.the-variants as EditAnswer
 use Rattle.emdf_format.specs.declared.RecipeError.{RecipeError}
-use Rattle.emdf_format.specs.Edits.{Edit, Gives, edited, Called}
+use Rattle.emdf_format.specs.Edits.{Edit, Called}
 use Rattle.emdf_format.proofs.Lists.{keeps-length, in-room}
 use Rattle.emdf_request.specs.declared.Request.{Request}
 use Rattle.emdf_request.specs.Requests.{editOf}
 use Rattle.emdf_recipe.specs.declared.RecipeRecord.{RecipeRecord}
 use Rattle.emdf_recipe.specs.declared.CheckAnswer.the-variants as CheckAnswer
 use Rattle.emdf_recipe.specs.File.{bodyKind, dropKind, firstIndex, recordCount, recordAt, recordEdit, recordAllowed, Recipe, edits, wrong, chain, recipeOf, editsOf, editsAfter, checkAnswer}
-use Rattle.emdf_recipe.proofs.File.{Data, has-data, Above, rises-above, Chained, chained-on, chain-end, Whole, checked-whole}
+use Rattle.emdf_recipe.proofs.File.{has-data, Above, rises-above, Chained, chained-on, chain-end, Whole, checked-whole}
 use Rattle.emdf_recipe_run.specs.declared.Span.{Span}
 use Rattle.emdf_recipe_run.specs.declared.Holder.{Holder}
 use Rattle.emdf_recipe_run.specs.declared.Holder.the-variants.{Start, First, Second}
 use Rattle.emdf_recipe_run.specs.declared.RunAnswer.{RunAnswer}
 use Rattle.emdf_recipe_run.specs.declared.RecipeAnswer.the-variants.{Ran, Refused}
 use Rattle.emdf_recipe_run.specs.Requests.{requestOf, spanOf, part}
-use Rattle.emdf_recipe_run.specs.Runs.{Run, source, target, other, firstAfter, secondAfter, counted, held, aim, ranEdit, ranEdits, begunAnswer, begun, runOf, answerOf, IsRun, Lies, RecipeCalled}
+use Rattle.emdf_recipe_run.specs.Runs.{Run, source, target, firstAfter, secondAfter, counted, held, aim, ranEdit, ranEdits, begunAnswer, begun, runOf, answerOf, IsRun, Lies, RecipeCalled}
 
 -- ---- a record, as it is handed to the edits
 
@@ -78,7 +77,7 @@ counts s (EditAnswer.Refused why) = omega arith
 lies-in : (p : Holder) (n : ByteCount) (m : ℕ) (answer : EditAnswer) (dst a b : List ℕ) → Lies p (n .0) a b
     → ((k : ByteCount) → answer ≡ EditAnswer.Written k → k .0 ≤ length dst)
     → let q = counted (record { holder = p; length = n; refused = m }) answer in Lies (q .holder) (q .length .0) (firstAfter p dst a) (secondAfter p dst b)
-unfolding counted other Lies firstAfter secondAfter
+unfolding counted Lies firstAfter secondAfter
 lies-in Start n m (EditAnswer.Written k) dst a b l f = f k refl
 lies-in First n m (EditAnswer.Written k) dst a b l f = f k refl
 lies-in Second n m (EditAnswer.Written k) dst a b l f = f k refl

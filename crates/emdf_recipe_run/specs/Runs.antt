@@ -3,7 +3,6 @@ use mathlib.Core.Path.{_≡_}
 use mathlib.Core.List.{List, [], _∷_}
 use Prim.Native.Nat.{ℕ, _+_, _≤_}
 use lib.ListN.{length, take}
-use Rattle.openjoc_bitio.specs.declared.ByteCount.{ByteCount}
 use Rattle.emdf_format.specs.declared.EditAnswer.{EditAnswer}
 use Rattle.emdf_format.specs.declared.EditAnswer.the-variants.{Written}
 use Rattle.emdf_format.specs.declared.EditAnswer.the-variants as EditAnswer
@@ -33,7 +32,7 @@ target Start a b = a
 target First a b = b
 target Second a b = a
 
-unfoldable pub other : Holder → Holder
+abbrev pub other : Holder → Holder
 other Start = First
 other First = Second
 other Second = First

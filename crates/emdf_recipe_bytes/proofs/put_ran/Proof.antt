@@ -1,5 +1,4 @@
 use borrow.Author.Needs.{needs}
-use mathlib.Core.Path.{_∙_}
 use Rattle.emdf_answers.specs.Replies.{padded}
 use Rattle.emdf_recipe_bytes.proofs.put_ran.Statement.{statement}
 use Rattle.emdf_recipe_bytes.proofs.put_ran.Tie as tie
