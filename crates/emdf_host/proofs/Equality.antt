@@ -27,7 +27,7 @@ use Rattle.emdf_format.specs.declared.RecipeError.the-variants.{BrokenChain, In
 use Rattle.emdf_recipe.specs.File.{Recipe, edits, wrong, recipeOf}
 use Rattle.emdf_recipe_run.specs.declared.Holder.{Holder}
 use Rattle.emdf_recipe_run.specs.declared.Holder.the-variants.{Start, First, Second}
-use Rattle.emdf_recipe_run.specs.Runs.{Run, source, other, counted, held, aim, ranEdit, ranEdits, begunAnswer, begun, runOf, answerOf}
+use Rattle.emdf_recipe_run.specs.Runs.{Run, source, counted, held, aim, ranEdit, ranEdits, begunAnswer, begun, runOf, answerOf}
 use Rattle.emdf_recipe_run.specs.Operations.{Operation, OperationAnswer, editAnswer, recipeAnswer, leftBy, Performed}
 use Rattle.emdf_recipe_run.specs.Operations as Operations
 use Rattle.emdf_recipe_run.proofs.Operations.{equality-of-operations}
@@ -93,7 +93,7 @@ Short Second n = n < 2 ^ 64
 
 short-next : (p : Holder) (n : ByteCount) (m : ℕ) (answer : EditAnswer) → Short p (n .0) → ((k : ByteCount) → answer ≡ Written k → k .0 < 2 ^ 64)
     → let q = counted (record { holder = p; length = n; refused = m }) answer in Short (q .holder) (q .length .0)
-unfolding counted other Short
+unfolding counted Short
 short-next Start n m (Written k) h l = l k refl
 short-next First n m (Written k) h l = l k refl
 short-next Second n m (Written k) h l = l k refl
