@@ -308,8 +308,9 @@ uint32_t emdf_verdict(const uint8_t *bytes, size_t length, uint32_t profile, uin
 
 /* The six edits. The source is exactly one carrier; the changed one goes to the first bytes of the destination. The rest of the
    destination, and all of it where the call refuses, stays as it was. Places count from 0; an insert stands before the payload
-   at place, or after the last where place is the count. Asked: the reading of the source, 20, 16 (of a place), 17, 18, 19. The
-   answer to 17 is never "no" for a body, a drop or a key, and to 18 for a drop. */
+   at place, or after the last where place is the count. All but emdf_edit_protection write zeros over both protections, whose
+   lengths stay. Asked: the reading of the source, 20, 16 (of a place), 17, 18, 19. The answer to 17 is never "no" for a body, a
+   drop or a key, and to 18 for a drop. */
 uint32_t emdf_edit_body(const uint8_t *source, size_t source_length, size_t place, const uint8_t *body, size_t body_length,
                         uint8_t *destination, size_t destination_length, uint8_t answer[EMDF_EDIT_ANSWER_BYTES]);
 uint32_t emdf_edit_settings(const uint8_t *source, size_t source_length, size_t place, const uint8_t *settings,

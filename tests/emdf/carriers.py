@@ -18,7 +18,9 @@ MOST_WITH_A_BYTE = (8 * 65535 - 22) // 27
 SMALL = {
     "a": Carrier([]),
     "b": Carrier([(1, DISCARD, b"\xc3")]),
-    "b-empty-body": Carrier([(1, DISCARD, b"")]),
+    # What drop(0) and body(0, empty) leave of B: zeros for its protection.
+    "b-dropped": Carrier([], primary=b"\0"),
+    "b-emptied": Carrier([(1, DISCARD, b"")], primary=b"\0"),
     "a-and-a-byte": Carrier([], more=b"\0"),
     "b-and-more": Carrier([(1, DISCARD, b"\xc3")], more=b"\x58\x38"),
     "strict": Carrier([(11, WANTED, b"\x01\x02\x03"), (14, WANTED, bytes(range(20)))]),
@@ -51,7 +53,8 @@ LONG = {"size-%d" % size: Carrier([(1, DISCARD, bytes(size))]) for size in (255,
 # Where the scope prints the bytes, what was written has to be them.
 assert SMALL["a"].data == bytes.fromhex("58380003001294")
 assert SMALL["b"].data == bytes.fromhex("58380007004202c3025280")
-assert SMALL["b-empty-body"].data == bytes.fromhex("58380006004200025280")
+assert SMALL["b-dropped"].data == bytes.fromhex("58380003001000")
+assert SMALL["b-emptied"].data == bytes.fromhex("58380006004200020000")
 assert len(LONG["longest"].data) == 65539 and MOST_PAYLOADS == 27592 and MOST_WITH_A_BYTE == 19416
 
 

@@ -11,6 +11,10 @@ from models.refused import UNREAD, A
 MOST = 65539
 TITLES = {name: title for name, title, _ in FIELDS}
 B = bytes.fromhex("58380007004202c3025280")
+# With their protection cleared, and B with an empty body.
+CLEARED_A = bytes.fromhex("58380003001000")
+CLEARED_B = bytes.fromhex("58380007004202c3020000")
+EMPTIED_B = bytes.fromhex("58380006004200020000")
 OF_A = Contents(0, [], b"\xa5", b"")
 OF_B = Contents(0, [(1, settings(discard=1), b"\xc3")], b"\xa5", b"")
 assert (OF_A.carrier(), OF_B.carrier()) == (A, B)
@@ -104,17 +108,23 @@ def blank_case(name, key, primary, secondary):
 
 
 def by_hand():
-    empty = bytes.fromhex("58380006004200025280")
     bare = "codec_data_present=0 discard_unknown_payload=1".split()
-    yield edit_case("drop(0) on B gives A", ["drop", "0"], B, A)
-    yield edit_case("body(0, empty) on B", ["body", "0", "-"], B, empty)
-    yield edit_case("insert(0, 1, discard, C3) on A gives B", ["insert", "0", "id=1", "body=c3"], A, B)
-    yield edit_case("and with words for it", ["insert", "0", "id=1"] + bare + ["body=C3"], A, B)
-    yield edit_case("body(0, C3) on B gives B", ["body", "0", "C3"], B, B)
-    yield edit_case("key(0) on A gives A", ["key", "0"], A, A)
+    yield edit_case("drop(0) on B", ["drop", "0"], B, CLEARED_A)
+    yield edit_case("body(0, empty) on B", ["body", "0", "-"], B, EMPTIED_B)
+    yield edit_case("insert(0, 1, discard, C3) on A", ["insert", "0", "id=1", "body=c3"], A, CLEARED_B)
+    yield edit_case("and with words for it", ["insert", "0", "id=1"] + bare + ["body=C3"], A, CLEARED_B)
+    yield edit_case("body(0, C3) on B", ["body", "0", "C3"], B, CLEARED_B)
+    yield edit_case("key(0) on A", ["key", "0"], A, CLEARED_A)
     yield edit_case("protection(A5, none) on B gives B", ["protection", "A5", "-"], B, B)
-    yield edit_case("settings as they are on B", ["set", "0"] + bare, B, B)
-    yield edit_case("A to B to A", "insert 0 id=1 body=c3 drop 0".split(), A, A)
+    yield edit_case("settings as they are on B", ["set", "0"] + bare, B, CLEARED_B)
+    yield edit_case("A to B to A", "insert 0 id=1 body=c3 drop 0".split(), A, CLEARED_A)
+    yield edit_case("drop(0), protection(A5, none) on B give A", "drop 0 protection a5 -".split(), B, A)
+    yield edit_case("protection(5A, none), drop(0) on B", "protection 5a - drop 0".split(), B, CLEARED_A)
+    # 01020304 and FF, from the third bit of the third byte on.
+    both = bytes.fromhex("58380007002404080c13fc")
+    yield case("blank(0, 01020304, FF)", "blank primary=01020304 secondary=ff".split(), out=both)
+    yield edit_case("key(0) on 4 and 1 bytes", ["key", "0"], both, bytes.fromhex("5838000700240000000000"))
+    yield edit_case("key(1) on 4 and 1 bytes", ["key", "1"], both, bytes.fromhex("5838000708240000000000"))
     yield case("blank(0, A5, none) gives A", ["blank", "primary=a5", "-o", "out"], left={"out": A})
     yield case("blank to standard output", ["blank", "primary=a5"], out=A)
     yield case("blank by itself: key id 0, primary protection 00", ["blank"], out=bytes.fromhex("58380003001000"))
@@ -253,8 +263,8 @@ def lengths():
 
 def spellings():
     every = bytes(range(256))
-    yield edit_case("leading zeros", ["drop", "000"], B, A)
-    yield edit_case("a place of 131,071 zeros", ["drop", "0" * 131071], B, A)
+    yield edit_case("leading zeros", ["drop", "000"], B, CLEARED_A)
+    yield edit_case("a place of 131,071 zeros", ["drop", "0" * 131071], B, CLEARED_A)
     given = bytes.fromhex("aabbccddeeff0123456789")
     yield chain_case("both cases", OF_B, [(["body", "0", "aAbBcCdDeEfF0123456789"], ("body", 0, given))])
     yield one_case("every octet", OF_B, "body", 0, every)
@@ -262,16 +272,16 @@ def spellings():
     words = ["edit", "in", "body", "0", "@-", "-o", "out"]
     after = step(OF_B, *body)[0].carrier()
     yield case("a body from standard input", words, {"in": B}, every, left={"out": after})
-    yield case("-o first", ["edit", "-o", "out", "in", "drop", "0"], {"in": B}, left={"out": A})
-    yield case("-o last", ["edit", "in", "drop", "0", "key", "0", "-o", "out"], {"in": B}, left={"out": A})
-    yield case("OUT is FILE", ["edit", "in", "-o", "in", "drop", "0"], {"in": B}, left={"in": A})
-    yield case("OUT is there", ["edit", "in", "-o", "out", "drop", "0"], {"in": B, "out": bytes(99)}, left={"out": A})
+    yield case("-o first", ["edit", "-o", "out", "in", "drop", "0"], {"in": B}, left={"out": CLEARED_A})
+    yield case("-o last", ["edit", "in", "drop", "0", "key", "0", "-o", "out"], {"in": B}, left={"out": CLEARED_A})
+    yield case("OUT is FILE", ["edit", "in", "-o", "in", "drop", "0"], {"in": B}, left={"in": CLEARED_A})
+    yield case("OUT is there", ["edit", "in", "-o", "out", "drop", "0"], {"in": B, "out": bytes(99)}, left={"out": CLEARED_A})
     files = {"in": B, "out": b"as it was"}
     said = b"emdf: edit 1, drop 1: refused, 16: no such place\n"
     yield case("OUT is there and the edit refused", ["edit", "in", "-o", "out", "drop", "1"], files, err=said, status=1)
     yield case("OUT is FILE and the edit refused", ["edit", "in", "-o", "in", "drop", "0", "drop", "0"], {"in": B},
                err=b"emdf: edit 2, drop 0: refused, 16: no such place\n", status=1)
-    yield case("a FILE called as an edit is", ["edit", "drop", "-o", "key", "drop", "0"], {"drop": B}, left={"key": A})
+    yield case("a FILE called as an edit is", ["edit", "drop", "-o", "key", "drop", "0"], {"drop": B}, left={"key": CLEARED_A})
     yield case("blank: the later word", ["blank", "key=1", "primary=00", "key=0", "primary=a5"], out=A)
 
 

@@ -12,7 +12,7 @@ import time
 import unicodedata
 
 from carriers import LONG, SMALL
-from editing import A, B, OF_B, step
+from editing import A, B, CLEARED_A, OF_B, step
 from harness import case, fill, run, standing, try_case
 
 NOBODY = 65534
@@ -30,7 +30,7 @@ RECIPE = bytes.fromhex("0001000100000200000000000000000000000000")  # drop(0)
 WRITERS = (
     ("blank", ["blank", "primary=a5"], A),
     ("body", ["body", "in", "0"], b"\xc3"),
-    ("edit", ["edit", "in", "drop", "0"], A),
+    ("edit", ["edit", "in", "drop", "0"], CLEARED_A),
     ("make", ["recipe", "make", "drop", "0"], RECIPE),
 )
 
@@ -187,7 +187,7 @@ def closed(command):
             got = run(command, words, folder, preexec_fn=lambda: os.close(1))
             yield words[0] + ": standard output closed", got, (b"", b"emdf: standard output: Bad file descriptor\n", 2)
         got = run(command, ["edit", "in", "-o", "out", "drop", "0"], folder, preexec_fn=lambda: os.closerange(0, 3))
-        yield "all three closed", got + (standing(folder),), (b"", b"", 0, {"in": B, "out": A})
+        yield "all three closed", got + (standing(folder),), (b"", b"", 0, {"in": B, "out": CLEARED_A})
 
 
 # ---- standard output
@@ -420,7 +420,7 @@ def some_of_each(command):
     with in_folder({"in": B, "target": b"as it was"}) as folder:
         os.symlink("target", os.path.join(folder, "out"))
         got = run(command, ["edit", "in", "-o", "out", "drop", "0"], folder) + (standing(folder),)
-        yield "edit: OUT is a link", got, (b"", b"", 0, {"in": B, "target": A, "out": "link to target"})
+        yield "edit: OUT is a link", got, (b"", b"", 0, {"in": B, "target": CLEARED_A, "out": "link to target"})
     with in_folder(dict.fromkeys(NAMES, A)) as folder:
         out, err, status = run(command, ["info", "--json"] + [os.fsdecode(name) for name in NAMES], folder)
         wanted = [in_json for _, in_json in NAMES.values()]

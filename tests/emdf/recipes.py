@@ -3,7 +3,7 @@ edits."""
 import random
 import tempfile
 
-from editing import B, BARE, OF_B, random_bytes, random_contents, shown, words_of
+from editing import B, BARE, CLEARED_A, EMPTIED_B, OF_B, random_bytes, random_contents, shown, words_of
 from forms import refusal_text
 from harness import case, fill, run
 from models.edits import Contents, step
@@ -99,10 +99,10 @@ def by_hand():
     yield case("by hand: make an empty body", "recipe make -o out body 0 -".split(), left={"out": EMPTIED})
     yield case("by hand: show an empty body", ["recipe", "show", "-"], stdin=EMPTIED, out=b"body 0 -\n")
     yield case("by hand: show no edits", ["recipe", "show", "r"], {"r": bytes(4)})
-    yield ran_case("by hand: drop(0) on B gives A", B, DROPPED, A)
-    yield ran_case("by hand: body(0, empty) on B", B, EMPTIED, bytes.fromhex("58380006004200025280"))
+    yield ran_case("by hand: drop(0) on B", B, DROPPED, CLEARED_A)
+    yield ran_case("by hand: body(0, empty) on B", B, EMPTIED, EMPTIED_B)
     said = "emdf: edit 1, body 1 00020004: refused, 16: no such place\n"
-    yield ran_case("by hand: one of two is refused", B, SKIPPED, A, said)
+    yield ran_case("by hand: one of two is refused", B, SKIPPED, CLEARED_A, said)
     yield ran_case("by hand: all are refused", A, DROPPED, A, "emdf: edit 1, drop 0: refused, 16: no such place\n")
     said = b"emdf: r: refused, 22: the recipe's chain is broken\n"
     yield case("by hand: 22", ["recipe", "show", "r"], {"r": b"\0\2\0\1"}, err=said, status=1)
@@ -255,11 +255,11 @@ def spellings():
     yield case("make: a body from standard input", words, stdin=B, left={"out": file_of([("body", 0, B)])})
     yield case("make: OUT is there", ["recipe", "make", "-o", "out", "drop", "0"], {"out": bytes(99)}, left={"out": DROPPED})
     files = {"in": B, "recipe": DROPPED}
-    yield case("apply: OUT is FILE", "recipe apply in recipe -o in".split(), files, left={"in": A})
-    yield case("apply: OUT is RECIPE", "recipe apply in recipe -o recipe".split(), files, left={"recipe": A})
-    yield case("apply: -o first", "recipe apply -o out in recipe".split(), files, left={"out": A})
-    yield case("apply: RECIPE -", "recipe apply in - -o out".split(), {"in": B}, DROPPED, left={"out": A})
-    yield case("apply: FILE -", "recipe apply - recipe -o -".split(), {"recipe": DROPPED}, B, out=A)
+    yield case("apply: OUT is FILE", "recipe apply in recipe -o in".split(), files, left={"in": CLEARED_A})
+    yield case("apply: OUT is RECIPE", "recipe apply in recipe -o recipe".split(), files, left={"recipe": CLEARED_A})
+    yield case("apply: -o first", "recipe apply -o out in recipe".split(), files, left={"out": CLEARED_A})
+    yield case("apply: RECIPE -", "recipe apply in - -o out".split(), {"in": B}, DROPPED, left={"out": CLEARED_A})
+    yield case("apply: FILE -", "recipe apply - recipe -o -".split(), {"recipe": DROPPED}, B, out=CLEARED_A)
     said = b"emdf: standard input: was read already\n"
     yield case("apply: both -", "recipe apply - - -o out".split(), stdin=B, err=said, status=2)
     named = {"in": B, b"r\x1b\n": b"\0"}

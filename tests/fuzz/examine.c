@@ -303,11 +303,32 @@ static struct slice protection(const struct reading *own, size_t word)
     return s;
 }
 
+static int brings_protections(enum call call)
+{
+    return call == EDIT_PROTECTION || call == BLANK;
+}
+
 static int has_protections(const struct request *r, const struct reading *left)
 {
     struct slice primary = protection(left, EMDF_PRIMARY_LENGTH), secondary = protection(left, EMDF_SECONDARY_LENGTH);
 
     return are_equal(&r->body, &primary) && are_equal(&r->settings, &secondary);
+}
+
+static int has_zeros_for_protections(const struct reading *left)
+{
+    static const uint8_t zeros[EMDF_PROTECTION_BYTES];
+    struct slice primary = protection(left, EMDF_PRIMARY_LENGTH), secondary = protection(left, EMDF_SECONDARY_LENGTH);
+
+    return memcmp(primary.bytes, zeros, primary.length) == 0 && memcmp(secondary.bytes, zeros, secondary.length) == 0;
+}
+
+/* Zeros as long as the source's. */
+static int are_cleared(const struct reading *own, const struct reading *left)
+{
+    return emdf_word(left->answer, EMDF_PRIMARY_LENGTH) == emdf_word(own->answer, EMDF_PRIMARY_LENGTH) &&
+           emdf_word(left->answer, EMDF_SECONDARY_LENGTH) == emdf_word(own->answer, EMDF_SECONDARY_LENGTH) &&
+           has_zeros_for_protections(left);
 }
 
 /* Whether the payload that was put in or changed is as asked for. */
@@ -329,7 +350,7 @@ static int has_payload(const struct request *r, const struct reading *left)
 
 static int has_what_was_asked(const struct request *r, const struct reading *left)
 {
-    if (r->call == EDIT_PROTECTION || r->call == BLANK)
+    if (brings_protections(r->call))
         return has_protections(r, left);
     if (r->call == EDIT_BODY || r->call == EDIT_SETTINGS || r->call == EDIT_INSERT)
         return has_payload(r, left);
@@ -351,9 +372,11 @@ static void check_reads_back(const struct request *r, const struct outcome *o, c
         failed("an edited carrier has another key id");
     if (!has_what_was_asked(r, &left))
         failed("an edited carrier has not what was asked for");
+    if (!brings_protections(r->call) && !are_cleared(own, &left))
+        failed("an edited carrier has not zeros for its protections");
 }
 
-/* The edit that has to give the source back. */
+/* The edit that has to give the source back, but for protections that were cleared. */
 static struct request undoing(const struct request *r, const struct reading *own)
 {
     struct request back = *r;
@@ -395,17 +418,55 @@ static int asks_the_same(const struct request *r, const struct request *back)
     }
 }
 
+/* The bits of a key id: 3, and from 7 on a variable field of groups of 4. */
+static size_t key_bits(uint64_t key)
+{
+    size_t bits = 3;
+
+    if (key < 7)
+        return bits;
+    for (key -= 7; key >= 8; key = key / 8 - 1)
+        bits += 4;
+    return bits + 4;
+}
+
+/* The bit at which a carrier's protections start: after the last payload, the end mark and the codes. */
+static size_t protection_bit(const struct reading *own)
+{
+    size_t count = (size_t)emdf_word(own->answer, EMDF_PAYLOADS);
+    size_t end = 34 + key_bits(emdf_word(own->answer, EMDF_KEY_ID));
+
+    if (count > 0)
+        end = (size_t)emdf_word(row_of(own, count - 1), EMDF_ROW_BODY_END_BIT);
+    return end + 5 + 4;
+}
+
+/* The source with zeros for its protections; its padding is zeros as it is. */
+static const uint8_t *cleared(const struct slice *source, const struct reading *own)
+{
+    static uint8_t carrier[SOURCE_MOST];
+    size_t from = protection_bit(own), first = from / 8;
+
+    memset(carrier, 0, source->length);
+    memcpy(carrier, source->bytes, first);
+    if (from % 8 != 0)
+        carrier[first] = source->bytes[first] & (uint8_t)(0xff00 >> from % 8);
+    return carrier;
+}
+
 static void check_undone(const struct request *r, const struct reading *own)
 {
     struct request back = undoing(r, own);
+    const uint8_t *wanted = r->call == EDIT_PROTECTION ? r->source.bytes : cleared(&r->source, own);
+    int is_as_wanted = memcmp(r->source.bytes, wanted, r->source.length) == 0;
     struct outcome o;
 
-    if (asks_the_same(r, &back) != are_equal(&r->source, &back.source))
+    if ((asks_the_same(r, &back) && is_as_wanted) != are_equal(&r->source, &back.source))
         failed("an edit changes the carrier other than it asks for a change");
     o = perform(&back, r->source.length, AT_END, kept[AT_START]);
     present_request = r;
-    if (o.number != 0 || o.filled != r->source.length || memcmp(o.bytes, r->source.bytes, o.filled) != 0)
-        failed("an edit undone does not give the source back");
+    if (o.number != 0 || o.filled != r->source.length || memcmp(o.bytes, wanted, o.filled) != 0)
+        failed("an edit undone does not give the source back, with zeros for protections");
 }
 
 static void check_edit(const struct request *r, const struct outcome *o, const struct reading *own)
@@ -470,6 +531,8 @@ static void check_held(const struct request *r, const struct outcome *o)
     present_request = r;
     if (left.number != 0 || emdf_word(left.answer, EMDF_BYTES_CONSUMED) != edited_length)
         failed("a recipe's carrier does not read back");
+    if (!has_zeros_for_protections(&left))
+        failed("a recipe's carrier has not zeros for its protections");
 }
 
 /* The buffers that the input asks for: around the longest that the edits write to each, where both have room enough. */

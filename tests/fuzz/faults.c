@@ -224,6 +224,92 @@ static uint32_t ends_never(const struct request *r)
     return make_call(r);
 }
 
+/* ---- protections that are not cleared, or that should not be */
+
+static int clears(enum call call)
+{
+    return call >= EDIT_BODY && call <= EDIT_KEY;
+}
+
+static struct slice protection_of(const uint8_t *answer, size_t word)
+{
+    struct slice s;
+
+    s.length = (size_t)emdf_word(answer, word);
+    s.bytes = answer + 8 * (word + 1) + EMDF_PROTECTION_BYTES - s.length;
+    return s;
+}
+
+/* Gives a carrier the source's protections, or of these the secondary one alone. */
+static void put_protections(const struct slice *source, uint8_t *carrier, size_t length, int has_primary)
+{
+    static uint8_t aside[SOURCE_MOST];
+    static const uint8_t zeros[EMDF_PROTECTION_BYTES];
+    uint8_t class[EMDF_CLASS_ANSWER_BYTES], answer[EMDF_EDIT_ANSWER_BYTES];
+    struct slice primary, secondary;
+
+    emdf_classify(source->bytes, source->length, class);
+    primary = protection_of(class + 8, EMDF_PRIMARY_LENGTH);
+    secondary = protection_of(class + 8, EMDF_SECONDARY_LENGTH);
+    memcpy(aside, carrier, length);
+    emdf_edit_protection(aside, length, has_primary ? primary.bytes : zeros, primary.length, secondary.bytes, secondary.length,
+                         carrier, length, answer);
+}
+
+static uint32_t leaves_protections(const struct request *r)
+{
+    uint32_t number = make_call(r);
+
+    if (clears(r->call) && number == 0)
+        put_protections(&r->source, r->room, filled_bytes(r->call, r->answer), 1);
+    return number;
+}
+
+static uint32_t leaves_secondary_protection(const struct request *r)
+{
+    uint32_t number = make_call(r);
+
+    if (clears(r->call) && number == 0)
+        put_protections(&r->source, r->room, filled_bytes(r->call, r->answer), 0);
+    return number;
+}
+
+/* As if nothing had to be done where an edit asks for what is there already: then the carrier is as long as it was. */
+static uint32_t leaves_what_it_finds(const struct request *r)
+{
+    static uint8_t aside[SOURCE_MOST];
+    uint32_t number = make_call(r);
+    size_t length = r->source.length;
+
+    if (!clears(r->call) || number != 0 || filled_bytes(r->call, r->answer) != length)
+        return number;
+    memcpy(aside, r->room, length);
+    put_protections(&r->source, aside, length, 1);
+    if (memcmp(aside, r->source.bytes, length) == 0)
+        memcpy(r->room, aside, length);
+    return number;
+}
+
+static uint32_t call_with_zeros(const struct request *r, enum call call)
+{
+    static const uint8_t zeros[SETTINGS_MOST];
+    struct request other = *r;
+
+    if (r->call == call)
+        other.body.bytes = other.settings.bytes = zeros;
+    return make_call(&other);
+}
+
+static uint32_t clears_brought_protections(const struct request *r)
+{
+    return call_with_zeros(r, EDIT_PROTECTION);
+}
+
+static uint32_t clears_blank_protections(const struct request *r)
+{
+    return call_with_zeros(r, BLANK);
+}
+
 /* ---- recipes that are checked wrongly */
 
 /* Leads along the chain as far as it is one: the record after a record, which may be the first of all, or 0. */
@@ -427,6 +513,15 @@ static uint32_t counts_one_refusal(const struct request *r)
     return number;
 }
 
+static uint32_t leaves_protections_in_recipe(const struct request *r)
+{
+    uint32_t number = make_call(r);
+
+    if (is_held_in(r, number, EMDF_IN_SECOND))
+        put_protections(&r->source, r->second, (size_t)emdf_word(r->answer, EMDF_HELD_LENGTH), 1);
+    return number;
+}
+
 /* What is done after an edit, where it isn't what should be. */
 enum rule { SWITCH_ALWAYS, START_AGAIN, STAY_IN_FIRST };
 
@@ -507,6 +602,11 @@ const struct fault FAULTS[] = {
     {"copies the source for each edit", copies_source},
     {"flips a bit in an edit of settings", flips_body_bit},
     {"turns a body around", turns_body},
+    {"leaves the protections as they were", leaves_protections},
+    {"leaves the secondary protection as it was", leaves_secondary_protection},
+    {"leaves the protections where nothing else changes", leaves_what_it_finds},
+    {"clears the protections that an edit brings", clears_brought_protections},
+    {"clears the protections of a blank carrier", clears_blank_protections},
     {"does not end", ends_never},
     {"takes a next index that is the record's own", takes_own_index},
     {"adds offset and length in 32 bits", adds_in_32_bits},
@@ -522,6 +622,7 @@ const struct fault FAULTS[] = {
     {"writes to the buffer that an edit started from", clears_other_buffer},
     {"answers no length for the source", forgets_source_length},
     {"counts no more than one refused edit", counts_one_refusal},
+    {"leaves the protections with the edits of a recipe", leaves_protections_in_recipe},
     {"switches buffers after a refused edit", switches_after_refusal},
     {"starts each edit of a recipe from the source", starts_again},
     {"keeps to the first buffer", stays_in_first},

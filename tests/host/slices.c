@@ -1,5 +1,6 @@
-/* What emdf.h says of its version and of slices. Length 0 with NULL is an empty slice, in each argument of each call: what has to
-   come out was taken from the scope. Slices that are only read may overlap: the call answers as if they lay apart. */
+/* What emdf.h says of its version, of protections that edits clear, and of slices. Length 0 with NULL is an empty slice, in each
+   argument of each call: what has to come out was taken from the scope. Slices that are only read may overlap: the call answers
+   as if they lay apart. */
 #include <stdio.h>
 #include <string.h>
 
@@ -7,16 +8,18 @@
 
 enum { WORDS_MOST = EMDF_CLASS_ANSWER_BYTES / 8, ROOM = 1024, FILLING = 0x5a };
 
-/* The scope's carriers: without a payload; with the body C3; with an empty one. And the second with its body at bit 57: settings
-   of six bits. */
+/* The scope's carriers: without a payload; with the body C3. What drop(0), body(0, C3) and body(0, empty) leave of the second,
+   with zeros for its protection. And the second with its body at bit 57: settings of six bits. */
 static const uint8_t A[] = {0x58, 0x38, 0x00, 0x03, 0x00, 0x12, 0x94};
 static const uint8_t B[] = {0x58, 0x38, 0x00, 0x07, 0x00, 0x42, 0x02, 0xc3, 0x02, 0x52, 0x80};
-static const uint8_t B_EMPTY[] = {0x58, 0x38, 0x00, 0x06, 0x00, 0x42, 0x00, 0x02, 0x52, 0x80};
+static const uint8_t CLEARED_A[] = {0x58, 0x38, 0x00, 0x03, 0x00, 0x10, 0x00};
+static const uint8_t CLEARED_B[] = {0x58, 0x38, 0x00, 0x07, 0x00, 0x42, 0x02, 0xc3, 0x02, 0x00, 0x00};
+static const uint8_t B_EMPTY[] = {0x58, 0x38, 0x00, 0x06, 0x00, 0x42, 0x00, 0x02, 0x00, 0x00};
 static const uint8_t UNALIGNED[] = {0x58, 0x38, 0x00, 0x07, 0x00, 0x40, 0x01, 0x61, 0x81, 0x29, 0x40};
 static const uint8_t A5[] = {0xa5}, C3[] = {0xc3};
 
-/* Recipes: without an edit; drop(0); body(0, empty) and then drop(0), which make B_EMPTY and A of B; a record outside the file;
-   a kind that isn't listed. */
+/* Recipes: without an edit; drop(0); body(0, empty) and then drop(0), which make B_EMPTY and CLEARED_A of B; a record outside the
+   file; a kind that isn't listed. */
 static const uint8_t NO_EDIT[] = {0, 0, 0, 0};
 static const uint8_t DROP[] = {0, 1, 0, 1, 0, 0, 2, 0, 0, 0, 0, 0, 0, 0, 0, 0, 0, 0, 0, 0};
 static const uint8_t EMPTY_AND_DROP[] = {0, 1, 0, 2, 0, 2, 1, 0, 0, 0, 0, 0, 0, 0, 0, 0, 0, 0, 0, 0,
@@ -159,6 +162,17 @@ static void check_contents(void)
     REFUSED(emdf_blank(0, NONE, NONE, NONE, answer), EMDF_NOT_WRITABLE);
 }
 
+/* Each edit but that of the protections writes zeros over them, also where it asks for what is there already. */
+static void check_protections(void)
+{
+    WRITES(CLEARED_B, emdf_edit_body(OF(B), 0, OF(C3), OF(room), answer));
+    WRITES(CLEARED_B, emdf_edit_settings(OF(B), 0, BARE, OF(room), answer));
+    WRITES(CLEARED_A, emdf_edit_drop(OF(B), 0, OF(room), answer));
+    WRITES(CLEARED_B, emdf_edit_insert(OF(A), 0, 1, BARE, OF(C3), OF(room), answer));
+    WRITES(CLEARED_A, emdf_edit_key(OF(A), 0, OF(room), answer));
+    WRITES(A, emdf_edit_protection(OF(CLEARED_A), OF(A5), NONE, OF(room), answer));
+}
+
 /* 19 with what is needed: B, A and B again by its parts. */
 static void check_destinations(void)
 {
@@ -201,9 +215,9 @@ static void check_runs(void)
     RUN(NONE, NONE, emdf_run_recipe(NONE, OF(NO_EDIT), NONE, NONE, answer), EMDF_ACCEPTED, EMDF_IN_SOURCE, 0, 0);
     RUN(NONE, NONE, emdf_run_recipe(OF(B), OF(NO_EDIT), NONE, NONE, answer), EMDF_ACCEPTED, EMDF_IN_SOURCE, sizeof B, 0);
     RUN(NONE, NONE, emdf_run_recipe(NONE, OF(EMPTY_AND_DROP), OF(room), OF(second), answer), EMDF_ACCEPTED, EMDF_IN_SOURCE, 0, 2);
-    RUN(OF(A), NONE, emdf_run_recipe(OF(B), OF(DROP), OF(room), NONE, answer), EMDF_ACCEPTED, EMDF_IN_FIRST, sizeof A, 0);
+    RUN(OF(CLEARED_A), NONE, emdf_run_recipe(OF(B), OF(DROP), OF(room), NONE, answer), EMDF_ACCEPTED, EMDF_IN_FIRST, sizeof A, 0);
     RUN(NONE, NONE, emdf_run_recipe(OF(B), OF(DROP), NONE, OF(second), answer), EMDF_ACCEPTED, EMDF_IN_SOURCE, sizeof B, 1);
-    RUN(OF(B_EMPTY), OF(A), emdf_run_recipe(OF(B), OF(EMPTY_AND_DROP), OF(room), OF(second), answer), EMDF_ACCEPTED,
+    RUN(OF(B_EMPTY), OF(CLEARED_A), emdf_run_recipe(OF(B), OF(EMPTY_AND_DROP), OF(room), OF(second), answer), EMDF_ACCEPTED,
         EMDF_IN_SECOND, sizeof A, 0);
     RUN(OF(B_EMPTY), NONE, emdf_run_recipe(OF(B), OF(EMPTY_AND_DROP), OF(room), NONE, answer), EMDF_ACCEPTED, EMDF_IN_FIRST,
         sizeof B_EMPTY, 1);
@@ -325,11 +339,13 @@ int main(void)
     check_carriers();
     check_sources();
     check_contents();
+    check_protections();
     check_destinations();
     check_recipes();
     check_runs();
     check_overlaps();
     check_recipe_overlaps();
-    printf("host: the version, and slices that are empty or overlap: %u checks, %u failures\n", checks, failures);
+    printf("host: the version, cleared protections, slices that are empty or overlap: %u checks, %u failures\n", checks,
+           failures);
     return failures != 0;
 }

@@ -57,9 +57,9 @@ def settings(**given):
 
 
 def changed(contents, edit, *given):
-    """The contents after an edit, or None where the place does not exist."""
+    """The contents after an edit, or None where the place does not exist. All but protection leave zeros for both protections."""
     payloads = list(contents.payloads)
-    key, primary, secondary = contents.key, contents.primary, contents.secondary
+    key, primary, secondary = contents.key, bytes(len(contents.primary)), bytes(len(contents.secondary))
     if edit == "key":
         (key,) = given
     elif edit == "protection":

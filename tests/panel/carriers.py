@@ -18,7 +18,8 @@ FILES = {
     # The scope's own, with the answers that it gives.
     "a": Carrier([]),
     "b": Carrier([(1, DISCARD, b"\xc3")]),
-    "b-empty-body": Carrier([(1, DISCARD, b"")]),
+    "b-dropped": Carrier([], primary=b"\0"),
+    "b-emptied": Carrier([(1, DISCARD, b"")], primary=b"\0"),
     "a-and-a-byte": Carrier([], more=b"\0"),
     # Pairs of OAMD and JOC.
     "strict": Carrier([(11, WANTED, b"\x01\x02\x03"), (14, WANTED, bytes(range(20)))]),
@@ -43,7 +44,8 @@ FILES |= {name: Unread(*of_file) for name, of_file in UNREAD.items()}
 # Where the scope prints the bytes, what was written has to be them.
 assert FILES["a"].data == A
 assert FILES["b"].data == bytes.fromhex("58380007004202c3025280")
-assert FILES["b-empty-body"].data == bytes.fromhex("58380006004200025280")
+assert FILES["b-dropped"].data == bytes.fromhex("58380003001000")
+assert FILES["b-emptied"].data == bytes.fromhex("58380006004200020000")
 # And the pair of the README.
 assert FILES["compat"].data == bytes.fromhex("5838000a02c80007104000002528")
 assert len(FILES["longest"].data) == 65539 and len(FILES["most"].data) <= 65539 and MOST_PAYLOADS == 27592

@@ -12,7 +12,6 @@ use Rattle.emdf_format.specs.declared.EditAnswer.the-variants.{Written, Refused
 use Rattle.emdf_format.specs.Syntax.{_⨟_, octetBits}
 use Rattle.emdf_format.specs.Contents.{carrier}
 use Rattle.emdf_format.specs.Edits.{Bytes, carrierLength, stepAnswer, written, edited, Called}
-use Rattle.emdf_format.proofs.Bytes.{declared-is}
 use Rattle.emdf_format.proofs.Splice.{⨟-assoc}
 use Rattle.emdf_writer.specs.Writing.{bitRun}
 use Rattle.emdf_writer.proofs.Run.{length-run}
@@ -34,16 +33,16 @@ module _ {s : List ℕ} {cut : Cut} {new : List ℕ} (w : Within s cut new) wher
   abbrev to : ℕ
   to = cut .to .0
 
-  abbrev end : ℕ
-  end = cut .end .0
+  abbrev kept : ℕ
+  kept = cut .kept .0
 
   abbrev size : ℕ
   size = cut .size .0
 
   -- all that is asked of numbers
-  pub splice-sizes : (32 ≤ from) × (from ≤ to) × (to ≤ end) × (end ≤ length s * 8) × (length s < 2 ^ 61) × (size < 65536)
-      × (length (syncBits size) ≡ 32) × (length (bitRun s 32 (from - 32)) ≡ from - 32) × (length (bitRun s to (end - to)) ≡ end - to)
-      × (keptBits cut new ≡ (from - 32) + length new + (end - to)) × (keptBits cut new ≤ 8 * size) × (8 * size < keptBits cut new + 8)
+  pub splice-sizes : (32 ≤ from) × (from ≤ to) × (to ≤ kept) × (kept ≤ length s * 8) × (length s < 2 ^ 61) × (size < 65536)
+      × (length (syncBits size) ≡ 32) × (length (bitRun s 32 (from - 32)) ≡ from - 32) × (length (bitRun s to (kept - to)) ≡ kept - to)
+      × (keptBits cut new ≡ (from - 32) + length new + (kept - to)) × (keptBits cut new ≤ 8 * size)
   unfolding keptBits
   splice-sizes = (
     w .starts,
@@ -54,17 +53,16 @@ module _ {s : List ℕ} {cut : Cut} {new : List ℕ} (w : Within s cut new) wher
     w .small,
     length-sync size,
     length-run s 32 (from - 32) (omega (arith, w .starts, w .ordered, w .ends, w .there)),
-    length-run s to (end - to) (omega (arith, w .ends, w .there)),
+    length-run s to (kept - to) (omega (arith, w .ends, w .there)),
     refl,
     w .covers,
-    w .close,
   )
 
   pub splice-bits : (end : ℕ) → end ≡ 32 + keptBits cut new
-      → syncBits (cut .size .0) ⨟ bitRun s 32 (cut .from .0 - 32) ⨟ new ⨟ bitRun s (cut .to .0) (cut .end .0 - cut .to .0) ⨟ numberBits ((4 + cut .size .0) * 8 - end) 0 ≡ spliced s cut new
+      → syncBits (cut .size .0) ⨟ bitRun s 32 (cut .from .0 - 32) ⨟ new ⨟ bitRun s (cut .to .0) (cut .kept .0 - cut .to .0) ⨟ numberBits ((4 + cut .size .0) * 8 - end) 0 ≡ spliced s cut new
   unfolding syncBits spliced keptBits
   splice-bits end e =
-      let z : (4 + cut .size .0) * 8 - end ≡ 8 * cut .size .0 - ((cut .from .0 - 32) + length new + (cut .end .0 - cut .to .0)) = omega (arith, e) in
+      let z : (4 + cut .size .0) * 8 - end ≡ 8 * cut .size .0 - ((cut .from .0 - 32) + length new + (cut .kept .0 - cut .to .0)) = omega (arith, e) in
       rw z (simp ⨟-assoc)
 
 -- ---- the calls
@@ -81,7 +79,6 @@ module _ (q : Request) (a b src dst : List ℕ) where
     pub within : Within src cut (newBits q a b)
     unfolding keptBits
     within =
-        let d = declared-is (p .contents) in
         record {
           starts = p .starts;
           ordered = p .ordered;
@@ -89,8 +86,7 @@ module _ (q : Request) (a b src dst : List ℕ) where
           there = p .there;
           short = p .short;
           small = p .small;
-          covers = omega (arith, p .kept, p .size, d .0);
-          close = omega (arith, p .kept, p .size, d .1);
+          covers = omega (arith, p .covers, p .size);
         }
 
     pub room : 4 + cut .size .0 ≤ length dst

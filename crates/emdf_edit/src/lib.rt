@@ -44,7 +44,7 @@ fn put_new(
 }
 
 // The edited carrier, over bytes of its own length: what the request brings stands in the source's bits, instead of those cut
-// out.
+// out, and zeros after those that are kept.
 fn put_splice(
     out: &mut [u8],
     source: &[u8],
@@ -58,13 +58,13 @@ fn put_splice(
 {
     let from = cut.from;
     let to = cut.to;
-    let end = cut.end;
+    let kept = cut.kept;
     let size = cut.size;
     let sync = emdf_field_writer::put_sync(out, size);
     let before = emdf_field_writer::put_run(out, sync, source, BitOffset(32), from.0 - 32);
     let new = put_new(out, before, request, octets, secondary);
-    let after = emdf_field_writer::put_run(out, new, source, to, end.0 - to.0);
-    emdf_field_writer::put_field(out, after, (4 + size.0) * 8 - after.0, 0)
+    let after = emdf_field_writer::put_run(out, new, source, to, kept.0 - to.0);
+    emdf_field_writer::put_zeros(out, after, (4 + size.0) * 8 - after.0)
 }
 
 // Any edit: all questions before the first byte is stored.

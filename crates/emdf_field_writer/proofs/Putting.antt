@@ -18,6 +18,7 @@ use Rattle.emdf_format.specs.Contents.{protectionBits}
 use Rattle.emdf_format.proofs.Standing.{length-then}
 use Rattle.emdf_format.proofs.Bytes.{sets-append}
 use Rattle.emdf_format.proofs.Payloads.{length-octets}
+use Rattle.emdf_format.proofs.Splice.{zeros-append}
 use Rattle.emdf_format.proofs.Variable.{before-fuel}
 use Rattle.emdf_writer.specs.Writing.{bitRun, numberPut, bitByBit}
 use Rattle.emdf_writer.proofs.Stored.{number-split}
@@ -58,6 +59,13 @@ then-put out mid end xs ys at {p} {q} a b =
 -- no bits
 pub none-put : (out : List ℕ) (at : ℕ) → Put out at [] out at
 none-put out at = (omega arith, refl)
+
+-- zero bits, of which left were still to come, and then w of these
+pub zeros-put : (out mid end : List ℕ) (at n left w : ℕ) {p q : ℕ} → left ≤ n → w ≤ left → Put out at (numberBits (n - left) 0) mid p
+    → Put mid p (numberBits w 0) end q → Put out at (numberBits (n - (left - w)) 0) end q
+zeros-put out mid end at n left w h k a b =
+    let z : n - (left - w) ≡ n - left + w = omega arith in
+    rw (z, ← zeros-append (n - left) w) (then-put out mid end _ _ at a b)
 
 -- ---- groups
 

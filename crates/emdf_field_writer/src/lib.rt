@@ -21,6 +21,20 @@ pub fn put_field(out: &mut [u8], at: BitOffset, width: usize, v: u64) -> BitOffs
     BitOffset(at.0 + width)
 }
 
+// So many zero bits.
+pub fn put_zeros(out: &mut [u8], at: BitOffset, n: usize) -> BitOffset
+    requires { ⌜ Room (now out) (at .0) (numberBits n 0) ⌝ }
+    ensures { λ r. ⌜ Put (now (out .entry)) (at .0) (numberBits n 0) (now (out .exit)) (r .0) ⌝ }
+{
+    let mut next = at;
+    let mut left = n;
+    while 64 < left {
+        next = put_field(out, next, 64, 0);
+        left -= 64;
+    }
+    put_field(out, next, left, 0)
+}
+
 // A group: the width low bits of v and the more bit.
 fn put_group(out: &mut [u8], at: BitOffset, width: usize, v: u64, more: u64) -> BitOffset
     requires { ⌜ (width < 64) × (more < 2) × Room (now out) (at .0) (group width v more) ⌝ }

@@ -12,3 +12,4 @@ pub mod Lists
 pub mod Starred
 pub mod Loops
 pub mod Splice
+pub mod Cleared

@@ -5,7 +5,7 @@ use mathlib.Core.List.{List, [], _∷_, _++_, append-nil}
 use mathlib.Core.Logic.{_↔_}
 use Prim.Native.Nat.{ℕ, zero, suc, _+_, _≤_}
 use native.Mathlib.Omega.{arith}
-use lib.ListN.{length, take, drop, length-append, length-drop}
+use lib.ListN.{length, take, drop, replicate, length-append, length-drop}
 use lib.Seq.{take-at, take-length}
 use lib.Dec.{T, leb, ltb, eqb, leb→le, le→leb, lt→ltb, eqb-refl}
 use Rattle.openjoc_bitio.specs.Choice.{if_then_else_}
@@ -13,10 +13,10 @@ use Rattle.openjoc_bitio.specs.declared.ByteCount.{ByteCount}
 use Rattle.emdf_format.specs.declared.EditError.{EditError}
 use Rattle.emdf_format.specs.declared.EditAnswer.the-variants.{Written}
 use Rattle.emdf_format.specs.Syntax.{mostDeclared}
-use Rattle.emdf_format.specs.Contents.{Payload, Contents, writable, declared, carrier, allBytes, bodiesAreBytes, contentsAreBytes}
+use Rattle.emdf_format.specs.Contents.{Payload, Contents, _&_, writable, declared, carrier, allBytes, bodiesAreBytes, contentsAreBytes}
 use Rattle.emdf_format.specs.Reading.{Container, Reading, accepted, refusal, reading, contentsOf}
 use Rattle.emdf_format.specs.Calls.{inTable}
-use Rattle.emdf_format.specs.Edits.{Edit, bodyEdit, settingsEdit, dropEdit, insertEdit, keyEdit, protectionEdit, withAt, withBody, withConfig, withPayloads, change, placeExists, Stepped, changed, unchanged, carrierLength, inRoom, stepTo, step, stepAnswer, stepContents, written, stepFrom, edited, Call, nextSource, done, leaves, answers, eventOf, events, outcome, plainContents, plainAnswers, Bytes, EditBytes, CallsBytes, ReadsAs, EqualityOfCarriers}
+use Rattle.emdf_format.specs.Edits.{Edit, bodyEdit, settingsEdit, dropEdit, insertEdit, keyEdit, protectionEdit, withAt, withBody, withConfig, withPayloads, cleared, change, placeExists, Stepped, changed, unchanged, carrierLength, inRoom, stepTo, step, stepAnswer, stepContents, written, stepFrom, edited, Call, nextSource, done, leaves, answers, eventOf, events, outcome, plainContents, plainAnswers, Bytes, EditBytes, CallsBytes, ReadsAs, EqualityOfCarriers}
 use Rattle.emdf_format.proofs.Standing.{T-of, if-yes, both, and}
 use Rattle.emdf_format.proofs.Payloads.{allFoundFrom}
 use Rattle.emdf_format.proofs.Container.{containerFrom}
@@ -99,19 +99,28 @@ bytes-at k f [] g h = tt
 bytes-at zero f (x ∷ xs) g h = and _ _ (g x (both h .left)) (both h .right)
 bytes-at (suc k) f (x ∷ xs) g h = and _ _ (both h .left) (bytes-at k f xs g (both h .right))
 
+zero-bytes : (n : ℕ) → T (allBytes (replicate n 0))
+unfolding allBytes
+zero-bytes zero = tt
+zero-bytes (suc n) = and _ _ tt (zero-bytes n)
+
+clear-bytes : (c : Contents) → T (allBytes (cleared c .primary) & allBytes (cleared c .secondary))
+unfolding cleared
+clear-bytes c = and _ _ (zero-bytes (length (c .primary))) (zero-bytes (length (c .secondary)))
+
 change-bytes : (e : Edit) (c : Contents) → EditBytes e → T (contentsAreBytes c) → T (contentsAreBytes (change e c))
-unfolding EditBytes contentsAreBytes change withPayloads bodiesAreBytes
-change-bytes (bodyEdit k bs) c h f = and _ _ (bytes-at k (withBody bs) (c .payloads) (λ x i. all-bytes bs h) (both f .left)) (both f .right)
-change-bytes (settingsEdit k t) c h f = and _ _ (bytes-at k (withConfig t) (c .payloads) (λ x i. i) (both f .left)) (both f .right)
+unfolding EditBytes contentsAreBytes change withPayloads cleared bodiesAreBytes
+change-bytes (bodyEdit k bs) c h f = and _ _ (bytes-at k (withBody bs) (c .payloads) (λ x i. all-bytes bs h) (both f .left)) (clear-bytes c)
+change-bytes (settingsEdit k t) c h f = and _ _ (bytes-at k (withConfig t) (c .payloads) (λ x i. i) (both f .left)) (clear-bytes c)
 change-bytes (dropEdit k) c h f =
     let xs = c .payloads in
-    and _ _ (bytes-append (take k xs) (drop (suc k) xs) (bytes-take k xs (both f .left)) (bytes-drop (suc k) xs (both f .left))) (both f .right)
+    and _ _ (bytes-append (take k xs) (drop (suc k) xs) (bytes-take k xs (both f .left)) (bytes-drop (suc k) xs (both f .left))) (clear-bytes c)
 change-bytes (insertEdit k i t bs) c h f =
     let xs = c .payloads in
     let x : Payload = record { id = i; config = t; body = bs } in
     let g : T (bodiesAreBytes (x ∷ drop k xs)) = and _ _ (all-bytes bs h) (bytes-drop k xs (both f .left)) in
-    and _ _ (bytes-append (take k xs) (x ∷ drop k xs) (bytes-take k xs (both f .left)) g) (both f .right)
-change-bytes (keyEdit i) c h f = f
+    and _ _ (bytes-append (take k xs) (x ∷ drop k xs) (bytes-take k xs (both f .left)) g) (clear-bytes c)
+change-bytes (keyEdit i) c h f = and _ _ (both f .left) (clear-bytes c)
 change-bytes (protectionEdit a b) c h f = and _ _ (both f .left) (and _ _ (all-bytes a (h .0)) (all-bytes b (h .1)))
 
 -- ---- one edit

@@ -4,14 +4,14 @@ use mathlib.Core.List.{List, [], _∷_, _++_, append-assoc, append-nil}
 use mathlib.Core.Option.{some}
 use Prim.Native.Nat.{ℕ, zero, suc, _+_, _*_, _≤_}
 use native.Mathlib.Omega.{arith}
-use native.Mathlib.Nat.{zero-add}
-use lib.ListN.{length, take, drop, getElem?, take-append-drop}
+use native.Mathlib.Nat.{zero-add, zero-div}
+use lib.ListN.{length, take, drop, getElem?, replicate, length-replicate, replicate-append-replicate, take-append-drop}
 use lib.Seq.{drop-append-add, drop-nil, getD-drop, sets, sets-eq}
 use Rattle.openjoc_bitio.specs.Bits.{numberBits}
 use Rattle.openjoc_bitio.proofs.Bits.{length-number}
 use Rattle.emdf_format.specs.Syntax.{_⨟_, variableField, extendedField, octetBits}
-use Rattle.emdf_format.specs.Contents.{Payload, Contents, configBits, payloadBits, payloadsBits, protectionBits, containerBits, carrierBits, bytesOf, carrier}
-use Rattle.emdf_format.specs.Edits.{bodyEdit, settingsEdit, dropEdit, insertEdit, keyEdit, protectionEdit, withAt, withBody, withConfig, withPayloads, change, carrierLength, Bytes}
+use Rattle.emdf_format.specs.Contents.{Payload, Contents, configBits, payloadBits, payloadsBits, protectionCode, protectionBits, containerBits, carrierBits, bytesOf, carrier}
+use Rattle.emdf_format.specs.Edits.{bodyEdit, settingsEdit, dropEdit, insertEdit, keyEdit, protectionEdit, withAt, withBody, withConfig, withPayloads, cleared, change, carrierLength, Bytes}
 use Rattle.emdf_format.specs.Reading.{Found, payloadOf, payloadsOf}
 use Rattle.emdf_format.specs.Calls.{bodyStart}
 use Rattle.emdf_format.specs.declared.EmdfPayloadConfig.{EmdfPayloadConfig}
@@ -44,16 +44,58 @@ unfolding listBits _⨟_
 list-append [] ys = refl
 list-append (x ∷ xs) ys = ap (λ (l : List ℕ). payloadBits x ++ l) (list-append xs ys) ∙ sym (append-assoc (payloadBits x) (listBits xs) (listBits ys))
 
--- ---- before place k, and from place k on
+-- ---- protections: what an edit keeps of them, and what it clears
+
+-- the two codes
+unfoldable pub codeBits : Contents → List ℕ
+codeBits c = numberBits 2 (protectionCode (length (c .primary))) ⨟ numberBits 2 (protectionCode (length (c .secondary)))
+
+unfoldable pub protected : Contents → List ℕ
+protected c = octetBits (c .primary) ⨟ octetBits (c .secondary)
+
+abbrev zeroBits : Contents → List ℕ
+zeroBits c = numberBits (length (protected c)) 0
+
+pub protection-parts : (c : Contents) → protectionBits (c .primary) (c .secondary) ≡ codeBits c ⨟ protected c
+unfolding protectionBits codeBits protected
+protection-parts c = simp ⨟-assoc
+
+number-zeros : (n : ℕ) → numberBits n 0 ≡ replicate n 0
+unfolding numberBits
+number-zeros zero = refl
+number-zeros (suc n) = rw (zero-div, number-zeros n)
+
+-- zero bits after zero bits
+pub zeros-append : (m n : ℕ) → numberBits m 0 ⨟ numberBits n 0 ≡ numberBits (m + n) 0
+unfolding _⨟_
+zeros-append m n = rw (number-zeros m, number-zeros n, number-zeros (m + n)) (replicate-append-replicate m n 0)
+
+octet-zeros : (n : ℕ) → octetBits (replicate n 0) ≡ numberBits (8 * n) 0
+unfolding octetBits numberBits
+octet-zeros zero = refl
+octet-zeros (suc n) =
+    let e : 8 * suc n ≡ 8 + 8 * n = omega arith in
+    rw (octet-zeros n, e) (zeros-append 8 (8 * n))
+
+pub protection-cleared : (c : Contents) → protectionBits (cleared c .primary) (cleared c .secondary) ≡ codeBits c ⨟ zeroBits c
+unfolding protectionBits codeBits protected cleared
+protection-cleared c =
+    let m = length (c .primary) in
+    let n = length (c .secondary) in
+    let z : length (octetBits (c .primary) ⨟ octetBits (c .secondary)) ≡ 8 * m + 8 * n = simp length-then (omega (arith, length-octets (c .primary), length-octets (c .secondary))) in
+    rw (length-replicate {A = ℕ} m 0, length-replicate {A = ℕ} n 0, octet-zeros m, octet-zeros n, z, ← zeros-append (8 * m) (8 * n)) (simp ⨟-assoc)
+
+-- ---- before place k, and from place k on to the protections
 
 unfoldable pub bitsBefore : Contents → ℕ → List ℕ
 bitsBefore c k = numberBits 2 0 ⨟ extendedField 3 (c .key-id) ⨟ listBits (take k (c .payloads))
 
 unfoldable pub bitsFrom : Contents → ℕ → List ℕ
-bitsFrom c k = listBits (drop k (c .payloads)) ⨟ numberBits 5 0 ⨟ protectionBits (c .primary) (c .secondary)
+bitsFrom c k = listBits (drop k (c .payloads)) ⨟ numberBits 5 0
 
 -- other payloads between place k and place j
-pub between : (c : Contents) (k j : ℕ) (ms : List Payload) → containerBits (withPayloads c (take k (c .payloads) ++ (ms ++ drop j (c .payloads)))) ≡ bitsBefore c k ⨟ listBits ms ⨟ bitsFrom c j
+between : (c : Contents) (k j : ℕ) (ms : List Payload)
+    → containerBits (withPayloads c (take k (c .payloads) ++ (ms ++ drop j (c .payloads)))) ≡ bitsBefore c k ⨟ listBits ms ⨟ bitsFrom c j ⨟ protectionBits (c .primary) (c .secondary)
 unfolding containerBits withPayloads bitsBefore bitsFrom
 between c k j ms =
     let xs = take k (c .payloads) in
@@ -61,6 +103,12 @@ between c k j ms =
     let e : payloadsBits (xs ++ (ms ++ ys)) ≡ (listBits xs ⨟ listBits ms ⨟ listBits ys) ⨟ numberBits 5 0 =
     payloads-list (xs ++ (ms ++ ys)) ∙ ap (λ (l : List ℕ). l ⨟ numberBits 5 0) (list-append xs (ms ++ ys) ∙ ap (λ (l : List ℕ). listBits xs ⨟ l) (list-append ms ys)) in
     simp (e, ⨟-assoc)
+
+-- and the protections cleared
+pub between-cleared : (c : Contents) (k j : ℕ) (ms : List Payload)
+    → containerBits (withPayloads (cleared c) (take k (c .payloads) ++ (ms ++ drop j (c .payloads)))) ≡ bitsBefore c k ⨟ listBits ms ⨟ (bitsFrom c j ⨟ codeBits c) ⨟ zeroBits c
+unfolding cleared bitsBefore bitsFrom
+between-cleared c k j ms = between (cleared c) k j ms ∙ rw (protection-cleared c) (simp ⨟-assoc)
 
 -- the payload at place k, and what a change of it leaves
 pub record Placed (k : ℕ) (xs : List Payload) (x : Payload) : Type 0 where
@@ -75,15 +123,16 @@ placed (suc k) (y ∷ xs) h =
     let r = placed k xs h in
     record { is = ap (λ (l : List Payload). y ∷ l) (r .is); other = λ f. ap (λ (l : List Payload). y ∷ l) (r .other f) }
 
--- ---- the six edits: the bits before, those that are replaced and by what, those after
+-- ---- the six edits: the bits before, those that are replaced and by what, those after, and the rest, which is cleared
 
 pub record Splice (c d : Contents) : Type 0 where
   pub before : List ℕ
   pub old : List ℕ
   pub new : List ℕ
   pub after : List ℕ
-  pub was : containerBits c ≡ before ⨟ old ⨟ after
-  pub is : containerBits d ≡ before ⨟ new ⨟ after
+  pub rest : List ℕ
+  pub was : containerBits c ≡ before ⨟ old ⨟ after ⨟ rest
+  pub is : containerBits d ≡ before ⨟ new ⨟ after ⨟ numberBits (length rest) 0
 
 pub one-bits : (x : Payload) → listBits (x ∷ []) ≡ payloadBits x
 unfolding listBits _⨟_
@@ -97,13 +146,23 @@ module _ (c : Contents) (k : ℕ) where
   abbrev ps : List Payload
   ps = c .payloads
 
-  -- one payload between place k and the next
-  pub with-one : (x : Payload) {xs : List Payload} → xs ≡ take k ps ++ (x ∷ drop (suc k) ps) → containerBits (withPayloads c xs) ≡ bitsBefore c k ⨟ payloadBits x ⨟ bitsFrom c (suc k)
-  with-one x e = ap (λ (l : List Payload). containerBits (withPayloads c l)) e ∙ between c k (suc k) (x ∷ []) ∙ ap (λ (l : List ℕ). bitsBefore c k ⨟ l ⨟ bitsFrom c (suc k)) (one-bits x)
+  -- from place j on, with the codes
+  abbrev tail : ℕ → List ℕ
+  tail j = bitsFrom c j ⨟ codeBits c
+
+  -- the contents as they are, with these payloads between place k and place j
+  pub whole : (j : ℕ) (ms : List Payload) → ps ≡ take k ps ++ (ms ++ drop j ps) → containerBits c ≡ bitsBefore c k ⨟ listBits ms ⨟ tail j ⨟ protected c
+  whole j ms e =
+      sym (same-payloads c) ∙ ap (λ (l : List Payload). containerBits (withPayloads c l)) e ∙ between c k j ms ∙ rw (protection-parts c) (simp ⨟-assoc)
 
   module _ {x : Payload} (at : getElem? ps k ≡ some x) where
-    pub here : containerBits c ≡ bitsBefore c k ⨟ payloadBits x ⨟ bitsFrom c (suc k)
-    here = sym (same-payloads c) ∙ with-one x (placed k ps at .is)
+    pub here : containerBits c ≡ bitsBefore c k ⨟ payloadBits x ⨟ tail (suc k) ⨟ protected c
+    here = whole (suc k) (x ∷ []) (placed k ps at .is) ∙ rw one-bits
+
+    -- another payload in its place
+    pub with-one : (f : Payload → Payload) → containerBits (withPayloads (cleared c) (withAt k f ps)) ≡ bitsBefore c k ⨟ payloadBits (f x) ⨟ tail (suc k) ⨟ zeroBits c
+    with-one f =
+        ap (λ (l : List Payload). containerBits (withPayloads (cleared c) l)) (placed k ps at .other f) ∙ between-cleared c k (suc k) (f x ∷ []) ∙ rw one-bits
 
     unfoldable pub splice-body : (bs : List ℕ) → Splice c (change (bodyEdit k bs) c)
     unfolding change payloadBits
@@ -111,9 +170,10 @@ module _ (c : Contents) (k : ℕ) where
       before = bitsBefore c k ⨟ extendedField 5 (x .id) ⨟ configBits (x .config);
       old = variableField 8 (length (x .body)) ⨟ octetBits (x .body);
       new = variableField 8 (length bs) ⨟ octetBits bs;
-      after = bitsFrom c (suc k);
+      after = tail (suc k);
+      rest = protected c;
       was = here ∙ simp ⨟-assoc;
-      is = with-one _ (placed k ps at .other (withBody bs)) ∙ simp ⨟-assoc;
+      is = with-one (withBody bs) ∙ simp ⨟-assoc;
     }
 
     unfoldable pub splice-settings : (t : EmdfPayloadConfig) → Splice c (change (settingsEdit k t) c)
@@ -122,30 +182,36 @@ module _ (c : Contents) (k : ℕ) where
       before = bitsBefore c k ⨟ extendedField 5 (x .id);
       old = configBits (x .config);
       new = configBits t;
-      after = variableField 8 (length (x .body)) ⨟ octetBits (x .body) ⨟ bitsFrom c (suc k);
+      after = variableField 8 (length (x .body)) ⨟ octetBits (x .body) ⨟ tail (suc k);
+      rest = protected c;
       was = here ∙ simp ⨟-assoc;
-      is = with-one _ (placed k ps at .other (withConfig t)) ∙ simp ⨟-assoc;
+      is = with-one (withConfig t) ∙ simp ⨟-assoc;
     }
 
     unfoldable pub splice-drop : Splice c (change (dropEdit k) c)
     unfolding change listBits _⨟_
-    splice-drop = record { before = bitsBefore c k; old = payloadBits x; new = []; after = bitsFrom c (suc k); was = here; is = between c k (suc k) [] }
-
-  pub all-there : containerBits c ≡ bitsBefore c k ⨟ [] ⨟ bitsFrom c k
-  unfolding listBits
-  all-there = sym (same-payloads c) ∙ ap (λ (l : List Payload). containerBits (withPayloads c l)) (sym (take-append-drop k ps)) ∙ between c k k []
+    splice-drop = record {
+      before = bitsBefore c k;
+      old = payloadBits x;
+      new = [];
+      after = tail (suc k);
+      rest = protected c;
+      was = here;
+      is = between-cleared c k (suc k) [];
+    }
 
   unfoldable pub splice-insert : (i : ℕ) (t : EmdfPayloadConfig) (bs : List ℕ) → Splice c (change (insertEdit k i t bs) c)
-  unfolding change
+  unfolding change listBits
   splice-insert i t bs =
       let x : Payload = record { id = i; config = t; body = bs } in
       record {
         before = bitsBefore c k;
         old = [];
         new = payloadBits x;
-        after = bitsFrom c k;
-        was = all-there;
-        is = between c k k (x ∷ []) ∙ ap (λ (l : List ℕ). bitsBefore c k ⨟ l ⨟ bitsFrom c k) (one-bits x);
+        after = tail k;
+        rest = protected c;
+        was = whole k [] (sym (take-append-drop k ps));
+        is = between-cleared c k k (x ∷ []) ∙ rw one-bits;
       }
 
 unfoldable pub splice-key : (c : Contents) (i : ℕ) → Splice c (change (keyEdit i) c)
@@ -154,18 +220,20 @@ splice-key c i = record {
   before = numberBits 2 0;
   old = extendedField 3 (c .key-id);
   new = extendedField 3 i;
-  after = payloadsBits (c .payloads) ⨟ protectionBits (c .primary) (c .secondary);
-  was = refl;
-  is = refl;
+  after = payloadsBits (c .payloads) ⨟ codeBits c;
+  rest = protected c;
+  was = rw (protection-parts c) (simp ⨟-assoc);
+  is = rw (protection-cleared c) (simp ⨟-assoc);
 }
 
 unfoldable pub splice-protection : (c : Contents) (a b : List ℕ) → Splice c (change (protectionEdit a b) c)
-unfolding change containerBits
+unfolding change containerBits numberBits
 splice-protection c a b = record {
   before = numberBits 2 0 ⨟ extendedField 3 (c .key-id) ⨟ payloadsBits (c .payloads);
   old = protectionBits (c .primary) (c .secondary);
   new = protectionBits a b;
   after = [];
+  rest = [];
   was = simp (⨟-assoc, ⨟-nil);
   is = simp (⨟-assoc, ⨟-nil);
 }

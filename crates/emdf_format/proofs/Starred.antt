@@ -23,7 +23,7 @@ use Rattle.emdf_format.specs.Reading.{reserved, sampleOffset, codecData,
 use Rattle.emdf_format.specs.Refusals.{refusalOf}
 use Rattle.emdf_format.specs.Calls.{nonEmdf, trailingData, classOf, classify}
 use Rattle.emdf_format.specs.Profile.{meets, table56, deviates, differ, marks, deviations, word, ones, passes, allows, allPass, meetsProfile}
-use Rattle.emdf_format.specs.Edits.{bodyEdit, dropEdit, withAt, withPayloads, change, placeExists, inRoom, stepTo, step, stepAnswer, written, stepFrom, edited}
+use Rattle.emdf_format.specs.Edits.{bodyEdit, dropEdit, withAt, withPayloads, cleared, change, placeExists, inRoom, stepTo, step, stepAnswer, written, stepFrom, edited}
 
 abbrev A : List ℕ
 A = 0x58 ∷ 0x38 ∷ 0x00 ∷ 0x03 ∷ 0x00 ∷ 0x12 ∷ 0x94 ∷ []
@@ -31,9 +31,12 @@ A = 0x58 ∷ 0x38 ∷ 0x00 ∷ 0x03 ∷ 0x00 ∷ 0x12 ∷ 0x94 ∷ []
 abbrev B : List ℕ
 B = 0x58 ∷ 0x38 ∷ 0x00 ∷ 0x07 ∷ 0x00 ∷ 0x42 ∷ 0x02 ∷ 0xc3 ∷ 0x02 ∷ 0x52 ∷ 0x80 ∷ []
 
--- B with an empty body
+-- B without its payload, and with an empty body: its protection is cleared
+abbrev dropped : List ℕ
+dropped = 0x58 ∷ 0x38 ∷ 0x00 ∷ 0x03 ∷ 0x00 ∷ 0x10 ∷ 0x00 ∷ []
+
 abbrev emptied : List ℕ
-emptied = 0x58 ∷ 0x38 ∷ 0x00 ∷ 0x06 ∷ 0x00 ∷ 0x42 ∷ 0x00 ∷ 0x02 ∷ 0x52 ∷ 0x80 ∷ []
+emptied = 0x58 ∷ 0x38 ∷ 0x00 ∷ 0x06 ∷ 0x00 ∷ 0x42 ∷ 0x00 ∷ 0x02 ∷ 0x00 ∷ 0x00 ∷ []
 
 abbrev discarded : EmdfPayloadConfig
 discarded = record {
@@ -73,7 +76,7 @@ pub record Starred : Type 0 where
   pub B-written : carrier (contentsOf inB) ≡ B
   pub B-padding : 8 * declared (contentsOf inB) - length (containerBits (contentsOf inB)) ≡ 7
   pub drop-answers : edited (dropEdit 0) B eight .answer ≡ Written (record { 0 = 7 })
-  pub drop-writes : edited (dropEdit 0) B eight .destination ≡ A ++ 9 ∷ []
+  pub drop-writes : edited (dropEdit 0) B eight .destination ≡ dropped ++ 9 ∷ []
   pub drop-wants-room : edited (dropEdit 0) B (9 ∷ []) .answer ≡ Refused (DestinationTooShort (record { 0 = 7 }))
   pub body-answers : edited (bodyEdit 0 []) B eleven .answer ≡ Written (record { 0 = 10 })
   pub body-writes : edited (bodyEdit 0 []) B eleven .destination ≡ emptied ++ 9 ∷ []
@@ -94,7 +97,7 @@ pub record Starred : Type 0 where
   pub size-256 : length (variableField 8 256) ≡ 18
 
 pub starred : Starred
-unfolding bitAt bitsValue numberBits bitLength bitsRemaining readBits _⨟_ groupsBefore variableField countBefore groups escape extendedField octetBits flaggedField presentField _&_ iff isPresent isOne whenPresent upTo hasAligned hasPriority presentAsRuled writableConfig writablePayload writablePayloads protectionLength protectionCode codable writable extensionBits flaggedBits presentBits neededConfig neededPayload neededPayloads neededBits declared sampleOffsetBits codecDataBits configBits payloadBits payloadsBits protectionBits containerBits carrierBits bitsNumber bytesOf carrier andThen _>>=_ give ask choose position remaining fromBits bits groupsFrom variableBits extendedValue octets present flagged reserved sampleOffset codecData configControls payloadConfig payloadAfter payloads padding containerEnd container consumed reading payloadsOf classOf classify withAt withPayloads change placeExists inRoom stepTo step stepAnswer written stepFrom edited
+unfolding bitAt bitsValue numberBits bitLength bitsRemaining readBits _⨟_ groupsBefore variableField countBefore groups escape extendedField octetBits flaggedField presentField _&_ iff isPresent isOne whenPresent upTo hasAligned hasPriority presentAsRuled writableConfig writablePayload writablePayloads protectionLength protectionCode codable writable extensionBits flaggedBits presentBits neededConfig neededPayload neededPayloads neededBits declared sampleOffsetBits codecDataBits configBits payloadBits payloadsBits protectionBits containerBits carrierBits bitsNumber bytesOf carrier andThen _>>=_ give ask choose position remaining fromBits bits groupsFrom variableBits extendedValue octets present flagged reserved sampleOffset codecData configControls payloadConfig payloadAfter payloads padding containerEnd container consumed reading payloadsOf classOf classify withAt withPayloads cleared change placeExists inRoom stepTo step stepAnswer written stepFrom edited
 starred = record {
   A-reads = refl;
   A-written = refl;

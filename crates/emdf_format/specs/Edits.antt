@@ -4,7 +4,7 @@ use mathlib.Core.Bool.{Bool, true}
 use mathlib.Core.List.{List, [], _∷_, _++_}
 use mathlib.Core.Logic.{_↔_}
 use Prim.Native.Nat.{ℕ, zero, suc, _+_, _<_, _≤_}
-use lib.ListN.{length, getD, take, drop}
+use lib.ListN.{length, getD, take, drop, replicate}
 use lib.Dec.{leb, ltb, eqb}
 use Rattle.openjoc_bitio.specs.Choice.{if_then_else_}
 use Rattle.openjoc_bitio.specs.declared.ByteCount.{ByteCount}
@@ -42,14 +42,23 @@ withConfig t x = record { id = x .id; config = t; body = x .body }
 unfoldable pub withPayloads : Contents → List Payload → Contents
 withPayloads c xs = record { key-id = c .key-id; payloads = xs; primary = c .primary; secondary = c .secondary }
 
--- each replaces just what it names; an insert stands before place k
+-- the protections were made for what an edit changes: zeros, as many, stand in their place
+unfoldable pub cleared : Contents → Contents
+cleared c = record {
+  key-id = c .key-id;
+  payloads = c .payloads;
+  primary = replicate (length (c .primary)) 0;
+  secondary = replicate (length (c .secondary)) 0;
+}
+
+-- each replaces what it names, and clears the protections unless it brings them; an insert stands before place k
 unfoldable pub change : Edit → Contents → Contents
-change (bodyEdit k bs) c = withPayloads c (withAt k (withBody bs) (c .payloads))
-change (settingsEdit k t) c = withPayloads c (withAt k (withConfig t) (c .payloads))
-change (dropEdit k) c = withPayloads c (take k (c .payloads) ++ drop (suc k) (c .payloads))
+change (bodyEdit k bs) c = withPayloads (cleared c) (withAt k (withBody bs) (c .payloads))
+change (settingsEdit k t) c = withPayloads (cleared c) (withAt k (withConfig t) (c .payloads))
+change (dropEdit k) c = withPayloads (cleared c) (take k (c .payloads) ++ drop (suc k) (c .payloads))
 change (insertEdit k i t bs) c =
-    withPayloads c (take k (c .payloads) ++ record { id = i; config = t; body = bs } ∷ drop k (c .payloads))
-change (keyEdit i) c = record { key-id = i; payloads = c .payloads; primary = c .primary; secondary = c .secondary }
+    withPayloads (cleared c) (take k (c .payloads) ++ record { id = i; config = t; body = bs } ∷ drop k (c .payloads))
+change (keyEdit i) c = record { key-id = i; payloads = c .payloads; primary = cleared c .primary; secondary = cleared c .secondary }
 change (protectionEdit a b) c = record { key-id = c .key-id; payloads = c .payloads; primary = a; secondary = b }
 
 -- 16: does the place exist, in so many payloads?

@@ -24,7 +24,7 @@ use Rattle.emdf_request.proofs.Requests.{change-writable, length-new}
 use Rattle.emdf_plan.specs.declared.Layout.{Layout}
 use Rattle.emdf_plan.specs.declared.Plan.the-variants.{Splice, Refused}
 use Rattle.emdf_plan.specs.Plan.{layoutOf, CutIn, cutAt, planned, laid, planFrom, planOf, sizeAfter, measure}
-use Rattle.emdf_plan.proofs.Cutting.{Cutting, splice-lengths, as-many, cutting}
+use Rattle.emdf_plan.proofs.Cutting.{Cutting, splice-lengths, protected-end, as-many, cutting}
 use Rattle.emdf_plan.proofs.Opening.{end-limit}
 
 -- ---- 18 and 19
@@ -54,7 +54,14 @@ module _ (q : Request) (a b : List ℕ) (s : List ℕ) {n : ℕ} {k : Container}
 
     pub cut-in : CutIn (stretchOf q) (laid q k)
     unfolding layoutOf
-    cut-in = (omega (arith, cut .from), omega (arith, cut .to), omega (arith, cut .end), omega (arith, end-limit s n k h))
+    cut-in = (
+      omega (arith, cut .from),
+      omega (arith, cut .to),
+      omega (arith, cut .kept),
+      omega (arith, cut .end),
+      omega (arith, protected-end k (stretchOf q .place)),
+      omega (arith, end-limit s n k h),
+    )
 
     -- the edited container's bits are those that are kept, and the new ones
     declared-is : declared edited ≡ sizeAfter (stretchOf q) (laid q k) (bringing q a b .brought)
@@ -69,6 +76,7 @@ module _ (q : Request) (a b : List ℕ) (s : List ℕ) {n : ℕ} {k : Container}
           length-container edited,
           cut .from,
           cut .to,
+          cut .kept,
           cut .end,
         )
 

@@ -1,5 +1,5 @@
 -- Where the bits that a request replaces stand in a carrier that is read. Assumes nothing.
-use mathlib.Core.Path.{_≡_, refl, ap, subst}
+use mathlib.Core.Path.{_≡_, refl, sym, ap, subst}
 use mathlib.Core.Bool.{true}
 use mathlib.Core.List.{List, [], _∷_}
 use mathlib.Core.Option.{Option, none, some}
@@ -9,13 +9,14 @@ use lib.ListN.{length, take, getElem?}
 use lib.Seq.{take-all}
 use lib.Dec.{ltb, ltb→lt}
 use Rattle.openjoc_bitio.proofs.Bits.{length-number}
-use Rattle.emdf_format.specs.Contents.{Payload, Contents, payloadBits, containerBits, extensionBits, neededPayloads}
+use Rattle.emdf_format.specs.Contents.{Payload, Contents, payloadBits, containerBits, extensionBits, neededPayloads, neededBits}
 use Rattle.emdf_format.specs.Reading.{Found, Container, accepted, reading, payloadOf, payloadsOf, contentsOf}
 use Rattle.emdf_format.specs.Edits.{change, placeExists}
 use Rattle.emdf_format.proofs.Standing.{T-of, length-then, stands-to}
+use Rattle.emdf_format.proofs.Payloads.{length-octets}
 use Rattle.emdf_format.proofs.Lengths.{length-extended, length-payload, length-payloads, length-container}
 use Rattle.emdf_format.proofs.Carrier.{read-contained}
-use Rattle.emdf_format.proofs.Splice.{Splice, listBits, bitsBefore, splice-body, splice-settings, splice-drop, splice-insert, splice-key, splice-protection, Parts, located, payload-at}
+use Rattle.emdf_format.proofs.Splice.{Splice, protected, listBits, bitsBefore, splice-body, splice-settings, splice-drop, splice-insert, splice-key, splice-protection, Parts, located, payload-at}
 use Rattle.emdf_request.specs.declared.Request.{Request}
 use Rattle.emdf_request.specs.declared.Request.the-variants as Request
 use Rattle.emdf_request.specs.Requests.{editOf, stretchOf, bringing, newBits}
@@ -27,21 +28,30 @@ pub record Cutting (q : Request) (a b : List ℕ) (k : Container) : Type 0 where
   pub new : splice .new ≡ newBits q a b
   pub from : edgeAt (stretchOf q .from) (layoutOf (stretchOf q .place) k) .0 ≡ 32 + length (splice .before)
   pub to : edgeAt (stretchOf q .to) (layoutOf (stretchOf q .place) k) .0 ≡ edgeAt (stretchOf q .from) (layoutOf (stretchOf q .place) k) .0 + length (splice .old)
-  pub end : layoutOf (stretchOf q .place) k .end .0 ≡ edgeAt (stretchOf q .to) (layoutOf (stretchOf q .place) k) .0 + length (splice .after)
+  pub kept : edgeAt (stretchOf q .kept) (layoutOf (stretchOf q .place) k) .0 ≡ edgeAt (stretchOf q .to) (layoutOf (stretchOf q .place) k) .0 + length (splice .after)
+  pub end : layoutOf (stretchOf q .place) k .end .0 ≡ edgeAt (stretchOf q .kept) (layoutOf (stretchOf q .place) k) .0 + length (splice .rest)
 
 -- ---- a splice takes all of a container and makes all of another
 
 pub splice-lengths : {c d : Contents} (x : Splice c d)
-    → (length (containerBits c) ≡ length (x .before) + (length (x .old) + length (x .after)))
-    × (length (containerBits d) ≡ length (x .before) + (length (x .new) + length (x .after)))
-splice-lengths x = (rw (length-then, length-then) at (ap length (x .was)), rw (length-then, length-then) at (ap length (x .is)))
+    → (length (containerBits c) ≡ length (x .before) + (length (x .old) + (length (x .after) + length (x .rest))))
+    × (length (containerBits d) ≡ length (x .before) + (length (x .new) + (length (x .after) + length (x .rest))))
+splice-lengths x = (rw (length-then, length-then, length-then) at (ap length (x .was)), rw (length-then, length-then, length-then, length-number) at (ap length (x .is)))
 
--- so that the end follows from its stretch
+-- so that the edge to which bits are kept follows from the rest
 cut-as : (k : Container) (q : Request) (a b : List ℕ) (x : Splice (contentsOf k) (change (editOf q a b) (contentsOf k))) → x .new ≡ newBits q a b
-    → edgeAt (stretchOf q .from) (layoutOf (stretchOf q .place) k) .0 ≡ 32 + length (x .before) → edgeAt (stretchOf q .to) (layoutOf (stretchOf q .place) k) .0 ≡ edgeAt (stretchOf q .from) (layoutOf (stretchOf q .place) k) .0 + length (x .old) → Cutting q a b k
+    → edgeAt (stretchOf q .from) (layoutOf (stretchOf q .place) k) .0 ≡ 32 + length (x .before)
+    → edgeAt (stretchOf q .to) (layoutOf (stretchOf q .place) k) .0 ≡ edgeAt (stretchOf q .from) (layoutOf (stretchOf q .place) k) .0 + length (x .old)
+    → layoutOf (stretchOf q .place) k .end .0 ≡ edgeAt (stretchOf q .kept) (layoutOf (stretchOf q .place) k) .0 + length (x .rest)
+    → Cutting q a b k
 unfolding layoutOf
-cut-as k q a b x new from to =
-    record { splice = x; new = new; from = from; to = to; end = omega (arith, length-container (contentsOf k), splice-lengths x, from, to) }
+cut-as k q a b x new from to end =
+    record { splice = x; new = new; from = from; to = to; kept = omega (arith, length-container (contentsOf k), splice-lengths x, from, to, end); end = end }
+
+-- the protections follow their codes
+pub protected-end : (k : Container) (j : ℕ) → layoutOf j k .end .0 ≡ layoutOf j k .codes .0 + 4 + length (protected (contentsOf k))
+unfolding layoutOf neededBits protected
+protected-end k j = simp length-then (omega (arith, length-octets (k .primary), length-octets (k .secondary)))
 
 -- ---- payloads by their place
 
@@ -107,20 +117,23 @@ cutting s n k (Request.Body j) a b r p =
     cut-as k (Request.Body j) a b (splice-body (contentsOf k) j at a) refl
     (rw h (simp length-then (omega (arith, parts .config, parts .size))))
     (rw h (simp length-then (omega (arith, parts .body, parts .end))))
+    (protected-end k j)
 cutting s n k (Request.Settings j t) a b r p =
     let (x, h, at, parts) = there s n k r j p in
     cut-as k (Request.Settings j t) a b (splice-settings (contentsOf k) j at t) refl (rw h (simp length-then (omega (arith, parts .config)))) (rw h (parts .size))
+    (protected-end k j)
 cutting s n k (Request.Drop j) a b r p =
     let (x, h, at, parts) = there s n k r j p in
     cut-as k (Request.Drop j) a b (splice-drop (contentsOf k) j at) refl (rw h (parts .id))
     (rw h (simp length-then (omega (arith, parts .id, parts .config, parts .size, parts .body, parts .end))))
+    (protected-end k j)
 cutting s n k (Request.Insert j i t) a b r p =
-    cut-as k (Request.Insert j i t) a b (splice-insert (contentsOf k) j i t a) refl (place-at s n k r j) (omega arith)
+    cut-as k (Request.Insert j i t) a b (splice-insert (contentsOf k) j i t a) refl (place-at s n k r j) (omega arith) (protected-end k j)
 cutting s n k (Request.Key i) a b r p =
-    cut-as k (Request.Key i) a b (splice-key (contentsOf k) i) refl (rw length-number) (omega (arith, length-extended 3 (k .key-id)))
+    cut-as k (Request.Key i) a b (splice-key (contentsOf k) i) refl (ap (λ (n : ℕ). 32 + n) (sym (length-number 2 0))) (omega (arith, length-extended 3 (k .key-id))) (protected-end k 0)
 cutting s n k Request.Protection a b r p =
     let c = contentsOf k in
     let x = splice-protection c a b in
     let from : 37 + extensionBits 3 (c .key-id) + neededPayloads (c .payloads) + 5 ≡ 32 + length (x .before) =
     simp (length-then, length-number) (omega (arith, length-extended 3 (c .key-id), length-payloads (c .payloads))) in
-    cut-as k Request.Protection a b x refl from (omega (arith, from, length-container c, splice-lengths x))
+    cut-as k Request.Protection a b x refl from (omega (arith, from, length-container c, splice-lengths x)) (omega arith)

@@ -20,7 +20,7 @@ use Rattle.emdf_format.proofs.Standing.{T-of, length-then}
 use Rattle.emdf_format.proofs.Bytes.{declared-is, octets-carrier, length-carrier}
 use Rattle.emdf_format.proofs.Carrier.{read-size}
 use Rattle.emdf_format.proofs.Lists.{carried, changes}
-use Rattle.emdf_format.proofs.Splice.{Splice as SpliceOf, ⨟-assoc}
+use Rattle.emdf_format.proofs.Splice.{Splice as SpliceOf, ⨟-assoc, zeros-append}
 use Rattle.emdf_writer.specs.Writing.{bitRun}
 use Rattle.emdf_plan.specs.declared.Cut.{Cut}
 use Rattle.emdf_request.specs.declared.Stretch.{Stretch}
@@ -38,25 +38,27 @@ run-after : (s xs ys zs : List ℕ) (p n : ℕ) → length xs ≡ p → length y
 unfolding bitRun _⨟_
 run-after s xs ys zs p n k l h = rw (h, drop-at xs (ys ⨟ zs) p k) (take-at ys zs n l)
 
--- the bits of the container after a cut
+-- the bits of the container after a cut, without what is cleared
 kept-bits : {c d : Contents} (x : SpliceOf c d) (cut : Cut) → cut .from .0 ≡ 32 + length (x .before)
-    → cut .to .0 ≡ cut .from .0 + length (x .old) → cut .end .0 ≡ cut .to .0 + length (x .after)
-    → (cut .from .0 - 32) + length (x .new) + (cut .end .0 - cut .to .0) ≡ length (containerBits d)
-kept-bits x cut from to end = omega (arith, from, to, end, splice-lengths x)
+    → cut .to .0 ≡ cut .from .0 + length (x .old) → cut .kept .0 ≡ cut .to .0 + length (x .after)
+    → (cut .from .0 - 32) + length (x .new) + (cut .kept .0 - cut .to .0) + length (x .rest) ≡ length (containerBits d)
+kept-bits x cut from to kept = omega (arith, from, to, kept, splice-lengths x)
 
 -- cut where a splice of its container replaces bits, a carrier becomes that of the other contents
 spliced-carrier : {c d : Contents} (x : SpliceOf c d) (cut : Cut) → cut .size .0 ≡ declared d → cut .from .0 ≡ 32 + length (x .before)
-    → cut .to .0 ≡ cut .from .0 + length (x .old) → cut .end .0 ≡ cut .to .0 + length (x .after) → spliced (carrier c) cut (x .new) ≡ carrierBits d
+    → cut .to .0 ≡ cut .from .0 + length (x .old) → cut .kept .0 ≡ cut .to .0 + length (x .after) → spliced (carrier c) cut (x .new) ≡ carrierBits d
 unfolding spliced carrierBits
-spliced-carrier {c} {d} x cut size from to end =
+spliced-carrier {c} {d} x cut size from to kept =
     let sync = numberBits 16 syncword ⨟ numberBits 16 (declared c) in
     let pad = numberBits (8 * declared c - length (containerBits c)) 0 in
-    let all : octetBits (carrier c) ≡ sync ⨟ x .before ⨟ x .old ⨟ x .after ⨟ pad = octets-carrier c ∙ rw (x .was) (simp ⨟-assoc) in
+    let all : octetBits (carrier c) ≡ sync ⨟ x .before ⨟ x .old ⨟ x .after ⨟ x .rest ⨟ pad = octets-carrier c ∙ rw (x .was) (simp ⨟-assoc) in
     let before : bitRun (carrier c) 32 (cut .from .0 - 32) ≡ x .before =
     run-after _ sync _ _ _ _ (simp (length-then, length-number)) (omega (arith, from)) all in
-    let after : bitRun (carrier c) (cut .to .0) (cut .end .0 - cut .to .0) ≡ x .after =
-    run-after _ (sync ⨟ x .before ⨟ x .old) _ pad _ _ (simp (length-then, length-number) (omega (arith, from, to))) (omega (arith, end)) (all ∙ simp ⨟-assoc) in
-    rw (before, after, size, kept-bits x cut from to end, x .is) (simp ⨟-assoc)
+    let after : bitRun (carrier c) (cut .to .0) (cut .kept .0 - cut .to .0) ≡ x .after =
+    run-after _ (sync ⨟ x .before ⨟ x .old) _ (x .rest ⨟ pad) _ _ (simp (length-then, length-number) (omega (arith, from, to))) (omega (arith, kept)) (all ∙ simp ⨟-assoc) in
+    let zeros : 8 * declared d - ((cut .from .0 - 32) + length (x .new) + (cut .kept .0 - cut .to .0)) ≡ length (x .rest) + (8 * declared d - length (containerBits d)) =
+    omega (arith, kept-bits x cut from to kept, declared-is d) in
+    rw (before, after, size, zeros, ← zeros-append (length (x .rest)) (8 * declared d - length (containerBits d)), x .is) (simp ⨟-assoc)
 
 -- ---- a source that is all of its container
 
@@ -75,10 +77,10 @@ pub record Spliceable (q : Request) (a b : List ℕ) (src : List ℕ) (room : �
   pub fits : carrierLength contents ≤ room
   pub starts : 32 ≤ cut .from .0
   pub ordered : cut .from .0 ≤ cut .to .0
-  pub ends : cut .to .0 ≤ cut .end .0
-  pub there : cut .end .0 ≤ length src * 8
+  pub ends : cut .to .0 ≤ cut .kept .0
+  pub there : cut .kept .0 ≤ length src * 8
   pub short : length src < 2 ^ 61
-  pub kept : (cut .from .0 - 32) + length (newBits q a b) + (cut .end .0 - cut .to .0) ≡ length (containerBits contents)
+  pub covers : (cut .from .0 - 32) + length (newBits q a b) + (cut .kept .0 - cut .to .0) ≤ 8 * declared contents
   pub bits : spliced src cut (newBits q a b) ≡ carrierBits contents
 
 planned-splice : (o : Stepped) (x : Stretch) (l : Layout) {cut : Cut} → planned o x l ≡ Splice cut
@@ -115,11 +117,13 @@ module _ (q : Request) (a b : List ℕ) (src : List ℕ) (room : ℕ) where
             fits = omega (arith, w .fits, ap declared (w .is));
             starts = omega (arith, g .from);
             ordered = omega (arith, g .to);
-            ends = omega (arith, g .end);
-            there = omega (arith, g .from, g .to, g .end, splice-lengths (g .splice), declared-is c, ap length s, length-carrier c);
+            ends = omega (arith, g .kept);
+            there = omega (arith, g .from, g .to, g .kept, splice-lengths (g .splice), declared-is c, ap length s, length-carrier c);
             short = omega (arith, read-size src n k r);
-            kept = rw (← g .new) (kept-bits (g .splice) (cutAt (stretchOf q) (laid q k) (declared (change (editOf q a b) c))) (g .from) (g .to) (g .end));
-            bits = rw (s, ← g .new) (spliced-carrier (g .splice) _ refl (g .from) (g .to) (g .end));
+            covers =
+                rw (← g .new)
+                (omega (arith, kept-bits (g .splice) (cutAt (stretchOf q) (laid q k) (declared (change (editOf q a b) c))) (g .from) (g .to) (g .kept), declared-is (change (editOf q a b) c)));
+            bits = rw (s, ← g .new) (spliced-carrier (g .splice) _ refl (g .from) (g .to) (g .kept));
           })
 
   pub plan-refused : (why : EditError) → planOf q a b src room ≡ Refused why → stepFrom (reading src) (length src) (editOf q a b) room ≡ unchanged why

@@ -20,7 +20,7 @@ use Rattle.emdf_request.specs.declared.Stretch.{Stretch}
 use Rattle.emdf_request.specs.declared.Brought.{Brought}
 use Rattle.emdf_request.specs.Requests.{editOf, stretchOf}
 use Rattle.emdf_plan.specs.Types.{Layout, Cut, Plan}
-use Rattle.emdf_request.specs.declared.Edge.the-variants.{Key, First, Id, Config, Size, Next, Codes, End}
+use Rattle.emdf_request.specs.declared.Edge.the-variants.{Key, First, Id, Config, Size, Next, Codes, Protection, End}
 use Rattle.emdf_plan.specs.declared.Plan.the-variants.{Splice, Refused}
 
 -- ---- where the parts of a container stand, and the payload at place k; past the last one, the end mark
@@ -49,16 +49,23 @@ edgeAt Config l = l .place .«config_start_bit»
 edgeAt Size l = l .place .«payload_size_start_bit»
 edgeAt Next l = l .place .«payload_body_end_bit»
 edgeAt Codes l = l .codes
+edgeAt Protection l = record { 0 = l .codes .0 + 4 }
 edgeAt End l = l .end
 
 -- a stretch in the container of a carrier
 abbrev pub CutIn : Stretch → Layout → Type 0
-CutIn x l = (32 ≤ edgeAt (x .from) l .0) × (edgeAt (x .from) l .0 ≤ edgeAt (x .to) l .0) × (edgeAt (x .to) l .0 ≤ l .end .0) × (l .end .0 < 2 ^ 20)
+CutIn x l =
+    (32 ≤ edgeAt (x .from) l .0)
+    × (edgeAt (x .from) l .0 ≤ edgeAt (x .to) l .0)
+    × (edgeAt (x .to) l .0 ≤ edgeAt (x .kept) l .0)
+    × (edgeAt (x .kept) l .0 ≤ l .end .0)
+    × (l .codes .0 + 4 ≤ l .end .0)
+    × (l .end .0 < 2 ^ 20)
 
 -- ---- the plan: the first question that is answered no, or where to cut
 
 unfoldable pub cutAt : Stretch → Layout → ℕ → Cut
-cutAt x l size = record { from = edgeAt (x .from) l; to = edgeAt (x .to) l; end = l .end; size = record { 0 = size } }
+cutAt x l size = record { from = edgeAt (x .from) l; to = edgeAt (x .to) l; kept = edgeAt (x .kept) l; size = record { 0 = size } }
 
 unfoldable pub planned : Stepped → Stretch → Layout → Plan
 planned (changed d) x l = Splice (cutAt x l (declared d))
@@ -87,14 +94,14 @@ measure x l b room =
     then (if leb (4 + size) room then Splice (cutAt x l size) else Refused (DestinationTooShort (record { 0 = 4 + size })))
     else Refused TooLong
 
--- ---- the bits of the edited carrier: the header, the source's bits around the cut, zero bits to the byte
+-- ---- the bits of the edited carrier: the header, the source's bits around the cut, zero bits to the end
 
 unfoldable pub spliced : List ℕ → Cut → List ℕ → List ℕ
 spliced s cut new =
-    let kept : ℕ = (cut .from .0 - 32) + length new + (cut .end .0 - cut .to .0) in
+    let sofar : ℕ = (cut .from .0 - 32) + length new + (cut .kept .0 - cut .to .0) in
     numberBits 16 syncword
     ⨟ numberBits 16 (cut .size .0)
     ⨟ bitRun s 32 (cut .from .0 - 32)
     ⨟ new
-    ⨟ bitRun s (cut .to .0) (cut .end .0 - cut .to .0)
-    ⨟ numberBits (8 * cut .size .0 - kept) 0
+    ⨟ bitRun s (cut .to .0) (cut .kept .0 - cut .to .0)
+    ⨟ numberBits (8 * cut .size .0 - sofar) 0

@@ -42,11 +42,12 @@ pub struct Placed {
     pub next: BitCursor,
 }
 
-// The bits to replace in a source whose container ends at a bit, and the bytes that the container declares afterwards.
+// The bits to replace in a source, where the bits after them that are kept end, and the bytes that the container declares
+// afterwards.
 pub struct Cut {
     pub from: BitOffset,
     pub to: BitOffset,
-    pub end: BitOffset,
+    pub kept: BitOffset,
     pub size: ByteCount,
 }
 
@@ -195,9 +196,11 @@ fn empty_trace(at: usize) -> EmdfPayloadBitTrace
 
 // Where an edge stands.
 fn edge_at(edge: Edge, layout: Layout) -> BitOffset
+    requires { ⌜ layout .codes .0 < 2 ^ 32 ⌝ }
     ensures { λ r. ⌜ r ≡ edgeAt edge layout ⌝ }
 {
     let place = layout.place;
+    let codes = layout.codes;
     match edge {
         Edge::Key => BitOffset(34),
         Edge::First => layout.first,
@@ -205,7 +208,8 @@ fn edge_at(edge: Edge, layout: Layout) -> BitOffset
         Edge::Config => place.config_start_bit,
         Edge::Size => place.payload_size_start_bit,
         Edge::Next => place.payload_body_end_bit,
-        Edge::Codes => layout.codes,
+        Edge::Codes => codes,
+        Edge::Protection => BitOffset(codes.0 + 4),
         Edge::End => layout.end,
     }
 }
@@ -222,11 +226,13 @@ fn measured(stretch: Stretch, layout: Layout, brought: Brought, room: usize) -> 
     }
     let first = stretch.from;
     let last = stretch.to;
+    let stop = stretch.kept;
     let from = edge_at(first, layout);
     let to = edge_at(last, layout);
+    let kept = edge_at(stop, layout);
     let end = layout.end;
-    let kept = end.0 - 32 - (to.0 - from.0);
-    let size = (kept + brought.fields + 8 * octets + 7) / 8;
+    let others = end.0 - 32 - (to.0 - from.0);
+    let size = (others + brought.fields + 8 * octets + 7) / 8;
     if MAX_DECLARED < size {
         return Plan::Refused(EditError::TooLong);
     }
@@ -239,7 +245,7 @@ fn measured(stretch: Stretch, layout: Layout, brought: Brought, room: usize) -> 
     Plan::Splice(Cut {
         from,
         to,
-        end,
+        kept,
         size: ByteCount(size),
     })
 }

@@ -4,14 +4,14 @@ use mathlib.Core.Bool.{Bool, true, false}
 use mathlib.Core.List.{List, [], _∷_, _++_}
 use Prim.Native.Nat.{ℕ, zero, suc, _+_, _*_, _<_, _≤_}
 use native.Mathlib.Omega.{arith}
-use lib.ListN.{length, take, drop}
+use lib.ListN.{length, take, drop, length-replicate}
 use lib.Dec.{T}
 use borrow.Author.Tests.{ltb-true, leb-true}
 use Rattle.openjoc_bitio.proofs.Bits.{length-number}
 use Rattle.emdf_format.specs.declared.EmdfPayloadConfig.{EmdfPayloadConfig}
 use Rattle.emdf_format.specs.Contents.{Payload, Contents, _&_, writableConfig, writablePayload, writablePayloads, writable, neededPayload, protectionBits}
-use Rattle.emdf_format.specs.Edits.{withAt, withBody, withConfig, withPayloads, change, placeExists}
-use Rattle.emdf_format.proofs.Standing.{is-true, both, length-then}
+use Rattle.emdf_format.specs.Edits.{withAt, withBody, withConfig, withPayloads, cleared, change, placeExists}
+use Rattle.emdf_format.proofs.Standing.{is-true, and, both, length-then}
 use Rattle.emdf_format.proofs.Variable.{length-field}
 use Rattle.emdf_format.proofs.Payloads.{length-octets}
 use Rattle.emdf_format.proofs.Lengths.{length-extended, length-config, length-payload}
@@ -88,9 +88,14 @@ module _ (c : Contents) (w : T (writable c)) where
   unfolding writable
   payloads-writable = both (both w .right) .left
 
-  with-writable : (xs : List Payload) → writable (withPayloads c xs) ≡ writablePayloads xs
-  unfolding writable withPayloads
-  with-writable xs = yes-and _ _ (both w .left) ∙ and-yes _ _ (both (both w .right) .right)
+  -- a protection's length has a code, whatever its bytes are
+  clear-writable : T (writableProtection (cleared c .primary) (cleared c .secondary))
+  unfolding writable writableProtection cleared
+  clear-writable = rw (length-replicate, length-replicate) (both (both w .right) .right)
+
+  with-writable : (xs : List Payload) → writable (withPayloads (cleared c) xs) ≡ writablePayloads xs
+  unfolding writable withPayloads writableProtection cleared
+  with-writable xs = yes-and _ _ (both w .left) ∙ and-yes _ _ clear-writable
 
   pub change-writable : (q : Request) (a b : List ℕ) → placeExists (editOf q a b) (length (c .payloads)) ≡ true
       → writable (change (editOf q a b) c) ≡ bringing q a b .brought .writable
@@ -99,7 +104,7 @@ module _ (c : Contents) (w : T (writable c)) where
   change-writable (Request.Settings k t) a b h = with-writable _ ∙ at-writable k (withConfig t) (writableConfig t) (c .payloads) (settings-writable t) payloads-writable (ltb-true k _ h)
   change-writable (Request.Drop k) a b h = with-writable _ ∙ drop-writable k (c .payloads) payloads-writable
   change-writable (Request.Insert k i t) a b h = with-writable _ ∙ insert-writable k _ (c .payloads) payloads-writable
-  change-writable (Request.Key i) a b h = and-yes _ _ (both w .right)
+  change-writable (Request.Key i) a b h = and-yes _ _ (and _ _ payloads-writable clear-writable)
   change-writable Request.Protection a b h = yes-and _ _ (both w .left) ∙ yes-and _ _ payloads-writable
 
 -- ---- how many bits a request brings

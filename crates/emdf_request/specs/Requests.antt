@@ -10,7 +10,7 @@ use Rattle.emdf_format.specs.Edits.{Edit, bodyEdit, settingsEdit, dropEdit, ins
 use Rattle.emdf_measure.specs.Parts.{writableProtection}
 use Rattle.emdf_request.specs.declared.Request.{Request}
 use Rattle.emdf_request.specs.declared.Request.the-variants as Request
-use Rattle.emdf_request.specs.declared.Edge.the-variants.{Key, First, Id, Config, Size, Next, Codes, End}
+use Rattle.emdf_request.specs.declared.Edge.the-variants.{Key, First, Id, Config, Size, Next, Codes, Protection, End}
 use Rattle.emdf_request.specs.declared.Stretch.{Stretch}
 use Rattle.emdf_request.specs.declared.Brought.{Brought}
 
@@ -24,15 +24,15 @@ editOf (Request.Insert place id config) octets secondary = insertEdit place id c
 editOf (Request.Key id) octets secondary = keyEdit id
 editOf Request.Protection octets secondary = protectionEdit octets secondary
 
--- ---- how it is written: the bits of a stretch are replaced by new ones
+-- ---- how it is written: the bits of a stretch are replaced by new ones, and what follows those that are kept is cleared
 
 abbrev pub stretchOf : Request → Stretch
-stretchOf (Request.Body place) = record { place = place; from = Size; to = Next }
-stretchOf (Request.Settings place config) = record { place = place; from = Config; to = Size }
-stretchOf (Request.Drop place) = record { place = place; from = Id; to = Next }
-stretchOf (Request.Insert place id config) = record { place = place; from = Id; to = Id }
-stretchOf (Request.Key id) = record { place = 0; from = Key; to = First }
-stretchOf Request.Protection = record { place = 0; from = Codes; to = End }
+stretchOf (Request.Body place) = record { place = place; from = Size; to = Next; kept = Protection }
+stretchOf (Request.Settings place config) = record { place = place; from = Config; to = Size; kept = Protection }
+stretchOf (Request.Drop place) = record { place = place; from = Id; to = Next; kept = Protection }
+stretchOf (Request.Insert place id config) = record { place = place; from = Id; to = Id; kept = Protection }
+stretchOf (Request.Key id) = record { place = 0; from = Key; to = First; kept = Protection }
+stretchOf Request.Protection = record { place = 0; from = Codes; to = End; kept = End }
 
 -- the new bits, how many they are, and what 17 asks of them
 pub record Bringing : Type 0 where

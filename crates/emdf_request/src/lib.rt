@@ -18,7 +18,8 @@ pub enum Request {
     Protection,
 }
 
-// The edges of a container's parts: its key id, its first payload, the parts of the payload at one place, its protection.
+// The edges of a container's parts: its key id, its first payload, the parts of the payload at one place, the codes of its
+// protections, and these.
 pub enum Edge {
     Key,
     First,
@@ -27,14 +28,17 @@ pub enum Edge {
     Size,
     Next,
     Codes,
+    Protection,
     End,
 }
 
-// The bits that a request replaces: those between two edges, with the payload at a place.
+// The bits that a request replaces: those between two edges, with the payload at a place. The ones after them are kept up to a
+// third edge, and then cleared.
 pub struct Stretch {
     pub place: usize,
     pub from: Edge,
     pub to: Edge,
+    pub kept: Edge,
 }
 
 // What a request brings: whether it can be written, how many bits of fields it is, and how many whole octets.
@@ -67,31 +71,37 @@ pub fn stretch_of(request: Request) -> Stretch
             place,
             from: Edge::Size,
             to: Edge::Next,
+            kept: Edge::Protection,
         },
         Request::Settings(place, _) => Stretch {
             place,
             from: Edge::Config,
             to: Edge::Size,
+            kept: Edge::Protection,
         },
         Request::Drop(place) => Stretch {
             place,
             from: Edge::Id,
             to: Edge::Next,
+            kept: Edge::Protection,
         },
         Request::Insert(place, _, _) => Stretch {
             place,
             from: Edge::Id,
             to: Edge::Id,
+            kept: Edge::Protection,
         },
         Request::Key(_) => Stretch {
             place: 0,
             from: Edge::Key,
             to: Edge::First,
+            kept: Edge::Protection,
         },
         Request::Protection => Stretch {
             place: 0,
             from: Edge::Codes,
             to: Edge::End,
+            kept: Edge::End,
         },
     }
 }

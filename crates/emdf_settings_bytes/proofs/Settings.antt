@@ -19,7 +19,7 @@ use Rattle.openjoc_bitio.specs.declared.BitsAnswer.the-variants.{Value, Refused
 use Rattle.openjoc_bitio.proofs.Cursor.{remaining-inside, read-accepted}
 use Rattle.openjoc_bitio.proofs.Bits.{value-none, value-split, value-octet, value-append, value-drop}
 use Rattle.emdf_format.specs.Contents.{_&_, whenPresent, upTo, writableConfig, Payload, writablePayload, writablePayloads, Contents, writable}
-use Rattle.emdf_format.specs.Edits.{settingsEdit, insertEdit, withAt, withConfig, withPayloads, change, placeExists, unchanged, stepTo, step}
+use Rattle.emdf_format.specs.Edits.{settingsEdit, insertEdit, withAt, withConfig, withPayloads, cleared, change, placeExists, unchanged, stepTo, step}
 use Rattle.emdf_format.specs.declared.EditError.the-variants.{NotWritable}
 use Rattle.emdf_format.specs.declared.Optional.{Optional}
 use Rattle.emdf_format.specs.declared.Optional.the-variants.{Absent, Present}
@@ -169,12 +169,12 @@ module _ (s : List ℕ) (outside : (eqb (length s) 144 & settingsFormed s) ≡ f
   pub settings-refused : (k room : ℕ) (c : Contents) → k < length (c .payloads) → step (settingsEdit k (settingsOf s)) room c ≡ unchanged NotWritable
   unfolding step placeExists change
   settings-refused k room c h =
-      rw (lt-ltb k (length (c .payloads)) h) (unwritable-refused c _ (with-unwritable (settingsOf s) outside-unwritable k (c .payloads) h) room)
+      rw (lt-ltb k (length (c .payloads)) h) (unwritable-refused (cleared c) _ (with-unwritable (settingsOf s) outside-unwritable k (c .payloads) h) room)
 
   pub insert-refused : (k room id : ℕ) (bs : List ℕ) (c : Contents) → k ≤ length (c .payloads) → step (insertEdit k id (settingsOf s) bs) room c ≡ unchanged NotWritable
   unfolding step placeExists change
   insert-refused k room id bs c h =
-      rw (le-leb k (length (c .payloads)) h) (unwritable-refused c _ (payloads-unwritable _ outside-unwritable (take k (c .payloads)) (drop k (c .payloads))) room)
+      rw (le-leb k (length (c .payloads)) h) (unwritable-refused (cleared c) _ (payloads-unwritable _ outside-unwritable (take k (c .payloads)) (drop k (c .payloads))) room)
 
 -- ---- settings as the code reads them
 

@@ -54,14 +54,14 @@ put-run-requires-2 c κs =
     let k = start a in
     omega (arith, k .pre .1, splice-sizes (k .pre .0), a .put-sync .ensures .0, a .put-sync .kept .0, b .put-run .ensures .0, b .put-run .kept .0, d .put-new .ensures .0, d .put-new .kept .0)
 
-add-put-field : tie.Need-add-put-field
-add-put-field c = omega (arith, small (c .before .before .before .before))
+add-put-zeros : tie.Need-add-put-zeros
+add-put-zeros c = omega (arith, small (c .before .before .before .before))
 
-mul-put-field : tie.Need-mul-put-field
-mul-put-field c = omega (arith, small (c .before .before .before .before))
+mul-put-zeros : tie.Need-mul-put-zeros
+mul-put-zeros c = omega (arith, small (c .before .before .before .before))
 
-sub-put-field : tie.Need-sub-put-field
-sub-put-field c =
+sub-put-zeros : tie.Need-sub-put-zeros
+sub-put-zeros c =
     let e = c .before .before .before .before .before in
     let d = new e in
     let b = run d in
@@ -69,8 +69,8 @@ sub-put-field c =
     let k = start a in
     omega (arith, k .pre .1, splice-sizes (k .pre .0), a .put-sync .ensures .0, b .put-run .ensures .0, d .put-new .ensures .0, e .put-run2 .ensures .0)
 
-put-field-requires : tie.Need-put-field-requires
-put-field-requires c κs =
+put-zeros-requires : tie.Need-put-zeros-requires
+put-zeros-requires c κs =
     let e = c .before .before .before .before .before in
     let d = new e in
     let b = run d in
@@ -89,7 +89,7 @@ returns c =
     let a = sync b in
     let k = start a in
     rw (← splice-bits (k .pre .0) (e .put-run2 .result .0) (omega (arith, splice-sizes (k .pre .0), a .put-sync .ensures .0, b .put-run .ensures .0, d .put-new .ensures .0, e .put-run2 .ensures .0)))
-    (then-put _ _ _ _ _ _ (a .put-sync .ensures) (then-put _ _ _ _ _ _ (b .put-run .ensures) (then-put _ _ _ _ _ _ (d .put-new .ensures) (then-put _ _ _ _ _ _ (e .put-run2 .ensures) (c .before .before .put-field .ensures)))))
+    (then-put _ _ _ _ _ _ (a .put-sync .ensures) (then-put _ _ _ _ _ _ (b .put-run .ensures) (then-put _ _ _ _ _ _ (d .put-new .ensures) (then-put _ _ _ _ _ _ (e .put-run2 .ensures) (c .before .before .put-zeros .ensures)))))
 
 pub put-splice-spec : {M : Type 1} → statement M
 put-splice-spec =
@@ -101,9 +101,9 @@ put-splice-spec =
     put-new-requires
     sub-put-run-2
     put-run-requires-2
-    add-put-field
-    mul-put-field
-    sub-put-field
-    put-field-requires
+    add-put-zeros
+    mul-put-zeros
+    sub-put-zeros
+    put-zeros-requires
     same-length
     returns)

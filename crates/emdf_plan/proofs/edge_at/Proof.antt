@@ -26,6 +26,12 @@ enum-told-7 c = search needs
 enum-told-8 : tie.Need-enum-told-8
 enum-told-8 c = search needs
 
+add-t6 : tie.Need-add-t6
+add-t6 c = search needs
+
+enum-told-9 : tie.Need-enum-told-9
+enum-told-9 c = search needs
+
 returns : tie.Need-returns
 returns c = rw (c .enum-told .given .1)
 
@@ -45,10 +51,13 @@ returns-6 : tie.Need-returns-6
 returns-6 c = rw (c .before .enum-told6 .given .1)
 
 returns-7 : tie.Need-returns-7
-returns-7 c = rw (c .before .enum-told7 .given .1)
+returns-7 c = rw (c .enum-told7 .given .1)
 
 returns-8 : tie.Need-returns-8
 returns-8 c = rw (c .before .enum-told8 .given .1)
+
+returns-9 : tie.Need-returns-9
+returns-9 c = rw (c .before .enum-told9 .given .1)
 
 pub edge-at-spec : {M : Type 1} → statement M
 edge-at-spec =
@@ -62,6 +71,8 @@ edge-at-spec =
     enum-told-6
     enum-told-7
     enum-told-8
+    add-t6
+    enum-told-9
     returns
     returns-2
     returns-3
@@ -69,4 +80,5 @@ edge-at-spec =
     returns-5
     returns-6
     returns-7
-    returns-8)
+    returns-8
+    returns-9)

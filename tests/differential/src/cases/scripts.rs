@@ -21,9 +21,9 @@ pub struct Script {
 pub enum Way {
     /// The same edits among others that are refused.
     Refused,
-    /// The same edits among others that undo each other.
+    /// The same edits among others that undo each other, and such as put back the protections that these cleared.
     Undone,
-    /// Edits that have nothing to do with each other, in another order.
+    /// Edits that have nothing to do with each other, in another order; one of the protections comes last in both, or in none.
     Reordered,
     /// From a blank, payload by payload.
     Built,
@@ -46,7 +46,13 @@ pub const WAYS: [Way; 6] = [
 pub const SURE_WAYS: usize = 4;
 
 /// The one thing that can be made different at the end.
-pub const THINGS: usize = 9;
+pub const THINGS: usize = 10;
+
+/// The thing that all contents have.
+const KEY_ID: usize = 8;
+
+/// The thing that comes of an edit alone, whatever it asks for.
+const CLEARED: usize = 9;
 
 pub struct Pair {
     pub scripts: [Script; 2],
@@ -63,9 +69,7 @@ impl Pair {
         };
         let mut second = first.second(way, random);
         let thing = random.one_in(2).then(|| random.up_to(THINGS - 1));
-        if let Some(thing) = thing {
-            second.differ(thing, random);
-        }
+        let thing = thing.map(|thing| second.differ(thing, random));
         let mut scripts = [first, second];
         if random.one_in(2) {
             scripts.swap(0, 1);
@@ -112,17 +116,23 @@ impl Script {
         contents
     }
 
-    /// Any edits, and refused ones among them.
+    /// Any edits, and refused ones among them; some start with protections of zeros, and some end with others.
     fn draw(random: &mut Random) -> Self {
         let payloads = random.up_to(4);
         let most_body = random.pick(&[0, 8, 40, 300]);
         let mut script = Self::from(shapes::draw_contents(random, payloads, most_body));
+        if random.one_in(3) {
+            script.start = script.start.cleared();
+        }
         let mut contents = script.start.clone();
         for _ in 0..random.up_to(8) {
             let step = draw_step(&contents, random);
             let destination = draw_room(&contents, &step, random);
             contents = step.on(&contents, destination).unwrap_or(contents);
             script.edits.push((step, destination));
+        }
+        if random.one_in(4) {
+            script.edits.push((steps::draw(5, 0, 0, random), AMPLE));
         }
         script
     }
@@ -154,14 +164,27 @@ impl Script {
         match way {
             Way::Refused => self.among(random, |contents, random| vec![refused(contents, random)]),
             Way::Undone => self.among(random, undone),
-            Way::Reordered | Way::Shuffled => {
-                let mut other = self.clone();
-                shuffle(&mut other.edits, random);
-                other
-            }
+            Way::Reordered => loop {
+                let other = self.shuffled(random);
+                if other.ends_with_protections() == self.ends_with_protections() {
+                    return other;
+                }
+            },
+            Way::Shuffled => self.shuffled(random),
             Way::Built => built(&self.end(), random),
             Way::Other => Self::draw(random),
         }
+    }
+
+    fn shuffled(&self, random: &mut Random) -> Self {
+        let mut other = self.clone();
+        shuffle(&mut other.edits, random);
+        other
+    }
+
+    /// Whether no edit comes after that of the protections, which would clear them.
+    fn ends_with_protections(&self) -> bool {
+        matches!(self.edits.last(), Some((Step::Protection { .. }, _)))
     }
 
     /// The edits of this list that are accepted, with others before, between and after.
@@ -185,12 +208,22 @@ impl Script {
         other
     }
 
-    /// Edits at the end after which one thing is not as it was.
-    fn differ(&mut self, thing: usize, random: &mut Random) {
+    /// Edits at the end after which one thing is not as it was: that thing, or the key id where the contents lack it.
+    fn differ(&mut self, thing: usize, random: &mut Random) -> usize {
         let end = self.end();
-        let steps = one_thing(&end, thing, random);
+        let (thing, mut steps) = match one_thing(&end, thing, random) {
+            Some(steps) => (thing, steps),
+            None => {
+                let key_id = end.key_id ^ 1 << random.up_to(63);
+                (KEY_ID, vec![Step::Key { key_id }])
+            }
+        };
+        if thing != CLEARED && steps.last().is_some_and(Step::clears) {
+            steps.extend(put_back(&end));
+        }
         self.edits
             .extend(steps.into_iter().map(|step| (step, AMPLE)));
+        thing
     }
 }
 
@@ -257,18 +290,37 @@ fn refused(contents: &Contents, random: &mut Random) -> (Step, usize) {
     }
 }
 
-/// A step and the one that takes it back, where the first is accepted.
+/// A step, the one that takes it back and, where they cleared protections, the one that puts them back.
 fn undone(contents: &Contents, random: &mut Random) -> Vec<(Step, usize)> {
-    let count = contents.payloads.len();
     let kind = random.up_to(KINDS - 1);
+    let Some((step, back)) = there_and_back(contents, kind, random) else {
+        return Vec::new();
+    };
+    let clears = step.clears();
+    let mut steps = vec![step, back];
+    if clears {
+        steps.extend(put_back(contents));
+    }
+    let mut contents = contents.clone();
+    let mut undone = Vec::new();
+    for step in steps {
+        if let Ok(after) = step.on(&contents, AMPLE) {
+            contents = after;
+        }
+        undone.push((step, plain::length(&contents) + random.up_to(3)));
+    }
+    undone
+}
+
+/// A step of this kind and the one that takes back what it names, where the first is accepted.
+fn there_and_back(contents: &Contents, kind: usize, random: &mut Random) -> Option<(Step, Step)> {
+    let count = contents.payloads.len();
     let place = match kind {
         3 => random.up_to(count),
         _ => random.up_to(count.saturating_sub(1)),
     };
     let step = steps::draw(kind, place, 40, random);
-    let Ok(after) = step.on(contents, AMPLE) else {
-        return Vec::new();
-    };
+    step.on(contents, AMPLE).ok()?;
     let back = match step {
         Step::Body { place, .. } => body(place, &contents.payloads[place]),
         Step::Settings { place, .. } => settings(place, &contents.payloads[place]),
@@ -277,11 +329,13 @@ fn undone(contents: &Contents, random: &mut Random) -> Vec<(Step, usize)> {
         Step::Key { .. } => key(contents),
         Step::Protection { .. } | Step::Blank { .. } => protection(contents),
     };
-    let [there, here] = [&after, contents].map(plain::length);
-    vec![
-        (step, there + random.up_to(3)),
-        (back, here + random.up_to(3)),
-    ]
+    Some((step, back))
+}
+
+/// The step that gives contents with cleared protections their own, if these are not zeros.
+#[must_use]
+pub fn put_back(contents: &Contents) -> Option<Step> {
+    (*contents != contents.cleared()).then(|| protection(contents))
 }
 
 /// These contents from a blank with others, its payloads in any order.
@@ -298,19 +352,21 @@ fn built(contents: &Contents, random: &mut Random) -> Script {
         steps.push(insert(before, &contents.payloads[place]));
         there.push(place);
     }
-    for step in [key(contents), protection(contents)] {
-        steps.insert(random.up_to(steps.len()), step);
-    }
+    steps.insert(random.up_to(steps.len()), key(contents));
+    // One that comes later clears these.
+    let place = random.up_to(steps.len() - 1);
+    steps.insert(place, any_protection(contents, random));
+    steps.extend(put_back(contents));
     script.edits = steps.into_iter().map(|step| (step, AMPLE)).collect();
     script
 }
 
-/// Steps after which one thing is different; a key id where the contents lack that thing.
-fn one_thing(contents: &Contents, thing: usize, random: &mut Random) -> Vec<Step> {
+/// Steps after which one thing is different, and protections may be cleared; none where the contents lack that thing.
+fn one_thing(contents: &Contents, thing: usize, random: &mut Random) -> Option<Vec<Step>> {
     let count = contents.payloads.len();
     let place = random.up_to(count.saturating_sub(1));
     let mut payload = contents.payloads.get(place).cloned();
-    match (thing, &mut payload) {
+    let steps = match (thing, &mut payload) {
         (0, Some(payload)) if !payload.body.is_empty() => {
             let bit = random.up_to(8 * payload.body.len() - 1);
             payload.body[bit / 8] ^= 0x80 >> (bit % 8);
@@ -355,10 +411,22 @@ fn one_thing(contents: &Contents, thing: usize, random: &mut Random) -> Vec<Step
             other.secondary.resize(longer, 0);
             vec![protection(&other)]
         }
-        _ => vec![Step::Key {
-            key_id: contents.key_id ^ 1 << random.up_to(63),
-        }],
-    }
+        (CLEARED, payload) if *contents != contents.cleared() => {
+            match (random.up_to(3), payload) {
+                // For what is there already.
+                (0, _) => vec![key(contents)],
+                (1, Some(payload)) => vec![body(place, payload)],
+                (2, Some(payload)) => vec![settings(place, payload)],
+                _ => {
+                    let kind = random.up_to(4);
+                    let (step, back) = there_and_back(contents, kind, random)?;
+                    vec![step, back]
+                }
+            }
+        }
+        _ => return None,
+    };
+    Some(steps)
 }
 
 /// One setting flipped, made another number, or 0 where it was absent.
@@ -390,7 +458,9 @@ pub fn body(place: usize, payload: &Payload) -> Step {
     }
 }
 
-fn settings(place: usize, payload: &Payload) -> Step {
+/// The step that leaves the payload's settings as they are.
+#[must_use]
+pub fn settings(place: usize, payload: &Payload) -> Step {
     Step::Settings {
         place,
         settings: plain::form(&payload.settings),
@@ -414,10 +484,20 @@ pub fn key(contents: &Contents) -> Step {
     }
 }
 
-fn protection(contents: &Contents) -> Step {
+/// The step that leaves the protections as they are.
+#[must_use]
+pub fn protection(contents: &Contents) -> Step {
     Step::Protection {
         primary: contents.primary.clone(),
         secondary: contents.secondary.clone(),
+    }
+}
+
+/// Protections of the same lengths.
+fn any_protection(contents: &Contents, random: &mut Random) -> Step {
+    Step::Protection {
+        primary: random.bytes(contents.primary.len()),
+        secondary: random.bytes(contents.secondary.len()),
     }
 }
 

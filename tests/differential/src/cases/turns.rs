@@ -41,7 +41,7 @@ impl List {
         let mut rest = &script.edits[..];
         while !rest.is_empty() {
             if random.one_in(3) {
-                turns.push(idle(&contents, random));
+                turns.extend(idle(&contents, random));
             }
             let is_fit = |edit: &&(Step, usize)| recipe::kind(&edit.0).is_some();
             let fit = rest.iter().take_while(is_fit).count();
@@ -57,7 +57,7 @@ impl List {
             rest = later;
         }
         if random.one_in(3) {
-            turns.push(idle(&contents, random));
+            turns.extend(idle(&contents, random));
         }
         Self {
             start: script.start.clone(),
@@ -157,13 +157,15 @@ fn refused(contents: &Contents, room: usize, random: &mut Random) -> Step {
     Step::Drop { place: count }
 }
 
-/// A recipe that changes nothing: a wrong one, one whose edits are all refused, none among them, or undone.
-fn idle(contents: &Contents, random: &mut Random) -> Turn {
-    match random.up_to(2) {
-        0 => wrong(contents, random),
-        1 => undone(contents, random).unwrap_or_else(|| all_refused(contents, random)),
-        _ => all_refused(contents, random),
-    }
+/// A recipe that changes nothing: a wrong one, one whose edits are all refused, none among them, or undone, which then
+/// takes an edit of the protections that they cleared.
+fn idle(contents: &Contents, random: &mut Random) -> Vec<Turn> {
+    let undone = match random.up_to(2) {
+        0 => return vec![wrong(contents, random)],
+        1 => undone(contents, random),
+        _ => None,
+    };
+    undone.unwrap_or_else(|| vec![all_refused(contents, random)])
 }
 
 fn wrong(contents: &Contents, random: &mut Random) -> Turn {
@@ -185,8 +187,9 @@ fn all_refused(contents: &Contents, random: &mut Random) -> Turn {
     Turn::Recipe(recipes::draw_file(&list, random), rooms)
 }
 
-/// Bodies and key ids, and then those that were there, where rooms are drawn with which that is so.
-fn undone(contents: &Contents, random: &mut Random) -> Option<Turn> {
+/// Bodies and key ids, and then those that were there, where rooms are drawn with which that is so; then the protections,
+/// unless they are zeros.
+fn undone(contents: &Contents, random: &mut Random) -> Option<Vec<Turn>> {
     let mut list = Vec::new();
     let mut back = Vec::new();
     for _ in 0..=random.up_to(2) {
@@ -203,9 +206,11 @@ fn undone(contents: &Contents, random: &mut Random) -> Option<Turn> {
     let rooms = [recipes::draw_rooms(contents, &list, random), [AMPLE; 2]];
     let rooms = rooms.into_iter().find(|rooms| {
         let ran = recipe::run(Held::with(contents.clone()), &list, *rooms);
-        ran.held.contents.as_ref() == Ok(contents)
+        ran.held.contents == Ok(contents.cleared())
     });
-    rooms.map(|rooms| Turn::Recipe(recipes::draw_file(&list, random), rooms))
+    let mut turns = vec![Turn::Recipe(recipes::draw_file(&list, random), rooms?)];
+    turns.extend(scripts::put_back(contents).map(|step| Turn::Edit(step, AMPLE)));
+    Some(turns)
 }
 
 /// The list, as it stands in a report.

@@ -11,10 +11,24 @@ use differential::case::ACCEPTED;
 use differential::contents::Contents;
 use differential::facts;
 use differential::plain::{self, Edit, Step};
+use differential::shapes::{PRIMARIES, SECONDARIES};
 use std::cell::{OnceCell, RefCell};
+use std::collections::HashMap;
 
 /// How often the rarest two bits of a byte were those at which source and edited carrier ended.
 pub const RAREST_ENDS: &str = "each-ends";
+
+/// How often the rarest edit cleared protections of the rarest two lengths that were not zeros.
+pub const RAREST_CLEARED: &str = "each-cleared";
+
+/// The edits that write zeros over both protections.
+const CLEARING: [&str; 5] = [
+    "edit_body",
+    "edit_settings",
+    "edit_drop",
+    "edit_insert",
+    "edit_key",
+];
 
 /// Bytes to be edited, and the original's reading of them.
 pub struct Source {
@@ -40,6 +54,8 @@ impl Source {
 pub struct Editor {
     desk: Desk,
     ends: [[u64; 8]; 8],
+    /// By edit, and the lengths of the protections.
+    cleared: HashMap<(&'static str, [usize; 2]), u64>,
 }
 
 impl Editor {
@@ -48,6 +64,7 @@ impl Editor {
         Self {
             desk: Desk::new(),
             ends: [[0; 8]; 8],
+            cleared: HashMap::new(),
         }
     }
 
@@ -85,10 +102,17 @@ impl Editor {
         self.compare(&right, destination, tally)
     }
 
-    /// Marks the rarest two ends of all edits so far.
-    pub fn mark_ends(&self, tally: &mut Tally) {
+    /// Marks the rarest two ends and the rarest protections of all edits so far.
+    pub fn mark(&self, tally: &mut Tally) {
         let rarest = self.ends.iter().flatten().min();
         tally.mark_times(RAREST_ENDS, rarest.copied().unwrap_or(0));
+        let lengths = PRIMARIES.map(|primary| SECONDARIES.map(|secondary| [primary, secondary]));
+        let all = CLEARING.into_iter().flat_map(|edit| {
+            let lengths = lengths.iter().flatten();
+            lengths.map(move |lengths| (edit, *lengths))
+        });
+        let rarest = all.map(|key| self.cleared.get(&key).copied().unwrap_or(0));
+        tally.mark_times(RAREST_CLEARED, rarest.min().unwrap_or(0));
     }
 
     fn compare(
@@ -106,7 +130,7 @@ impl Editor {
             Err(said) => return Err(difference(&edit, said)),
         };
         if let (Some(left), Ok(after)) = (&left, &after) {
-            self.count_ends(&right.source.reading, after);
+            self.count(edit.step, &right.source.reading, after);
             let is_read_so = || right.is_read_so(left, after);
             if !right.is_read_so.get_or_init(is_read_so) {
                 return Err(breaks_the_rule(&edit, after, left));
@@ -115,10 +139,15 @@ impl Editor {
         Ok((reply, left))
     }
 
-    fn count_ends(&mut self, reading: &Reading, after: &Contents) {
+    fn count(&mut self, step: &Step, reading: &Reading, after: &Contents) {
         if let Ok(found) = reading {
-            let ends = [&found.contents, after].map(|contents| plain::bits_needed(contents) % 8);
+            let before = &found.contents;
+            let ends = [before, after].map(|contents| plain::bits_needed(contents) % 8);
             self.ends[ends[0]][ends[1]] += 1;
+            if *before != before.cleared() {
+                let lengths = [before.primary.len(), before.secondary.len()];
+                *self.cleared.entry((step.name(), lengths)).or_insert(0) += 1;
+            }
         }
     }
 }
@@ -185,7 +214,7 @@ impl<'a> Right<'a> {
         }
     }
 
-    /// The original reads what was left, and finds the source's contents with just that change.
+    /// The original reads what was left, and finds the source's contents with that change and no other.
     fn is_read_so(&self, left: &[u8], after: &Contents) -> bool {
         let Ok(found) = facts::reading(left) else {
             return false;
@@ -202,7 +231,7 @@ impl<'a> Right<'a> {
     }
 }
 
-/// The contents with what a step names as it was before, if it is now as the step has it.
+/// The contents with what a step changes as it was before, if it is now as the step has it.
 fn without(step: &Step, before: &Contents, mut after: Contents) -> Option<Contents> {
     let is_done = match step {
         Step::Body { place, body } => {
@@ -230,15 +259,18 @@ fn without(step: &Step, before: &Contents, mut after: Contents) -> Option<Conten
             new.id == *id && plain::form(&new.settings) == *settings && new.body == *body
         }
         Step::Key { key_id } => std::mem::replace(&mut after.key_id, before.key_id) == *key_id,
-        Step::Protection { primary, secondary } => {
-            let is_done = after.primary == *primary && after.secondary == *secondary;
-            after.primary.clone_from(&before.primary);
-            after.secondary.clone_from(&before.secondary);
-            is_done
-        }
+        Step::Protection { .. } => true,
         Step::Blank { .. } => false,
     };
-    is_done.then_some(after)
+    // Zeros as long as they were, unless others are given.
+    let [primary, secondary] = match step {
+        Step::Protection { primary, secondary } => [primary.clone(), secondary.clone()],
+        _ => [&before.primary, &before.secondary].map(|bytes| vec![0; bytes.len()]),
+    };
+    let is_protected = after.primary == primary && after.secondary == secondary;
+    after.primary.clone_from(&before.primary);
+    after.secondary.clone_from(&before.secondary);
+    (is_done && is_protected).then_some(after)
 }
 
 /// Where one edit's slices lie, and the memory that is lent with them.

@@ -1,10 +1,10 @@
 //! The groups for single edits and the blank call.
 
 use crate::carriers;
-use crate::editing::{Editor, Source, RAREST_ENDS};
+use crate::editing::{Editor, Source, RAREST_CLEARED, RAREST_ENDS};
 use crate::report::{Difference, Group, Outcome, Tally};
 use differential::carrier::{
-    Refusal, A, B, BYTES_AFTER, DESTINATION_TOO_SHORT, HEADER, HEADER_CUT, MOST_DECLARED,
+    Refusal, B, BYTES_AFTER, DESTINATION_TOO_SHORT, HEADER, HEADER_CUT, MOST_DECLARED,
     NOT_WRITABLE, NO_PRIMARY, NO_SUCH_PLACE, NO_SYNC_WORD, PADDING_NOT_ZERO, PADDING_TOO_LONG,
     RESERVED_NOT_ZERO, TOO_LONG, TRUNCATED, VERSION_NOT_ZERO,
 };
@@ -16,6 +16,7 @@ use differential::noes::Noes;
 use differential::options::Length;
 use differential::plain::{self, Edit, Step, FORM};
 use differential::random::Random;
+use differential::scripts;
 use differential::shapes::{self, Numbers, MOST_DURATION, SHAPES, SIZES};
 use differential::steps::{self, KINDS};
 use differential::wrong;
@@ -42,7 +43,7 @@ pub const GROUPS: [Group; 6] = [
             ("edit_protection", ACCEPTED),
             ("edit_protection", DESTINATION_TOO_SHORT),
         ],
-        marks: &[RAREST_ENDS],
+        marks: &[RAREST_ENDS, RAREST_CLEARED, AS_IT_IS],
         run: every_shape,
     },
     Group {
@@ -128,6 +129,9 @@ pub const GROUPS: [Group; 6] = [
     },
 ];
 
+/// Edits for what is there already.
+const AS_IT_IS: &str = "as-it-is";
+
 /// Settings whose bytes are not of the form.
 const NO_FORM: &str = "no-form";
 
@@ -178,7 +182,8 @@ const EVERY_SOURCE_REFUSED: [Outcome; KINDS * SOURCE_REFUSED.len()] = {
 /// The most places of one carrier that are tried.
 const PLACES: usize = 8;
 
-const B_WITHOUT_A_BODY: [u8; 10] = [0x58, 0x38, 0x00, 0x06, 0x00, 0x42, 0x00, 0x02, 0x52, 0x80];
+const B_WITHOUT_ITS_PAYLOAD: [u8; 7] = [0x58, 0x38, 0x00, 0x03, 0x00, 0x10, 0x00];
+const B_WITHOUT_A_BODY: [u8; 10] = [0x58, 0x38, 0x00, 0x06, 0x00, 0x42, 0x00, 0x02, 0x00, 0x00];
 
 fn every_shape(tally: &mut Tally, random: &mut Random, length: Length) -> Result<(), Difference> {
     let mut editor = Editor::new();
@@ -202,7 +207,7 @@ fn every_shape(tally: &mut Tally, random: &mut Random, length: Length) -> Result
             some_edits(&contents, 1, &mut editor, tally, random)?;
         }
     }
-    editor.mark_ends(tally);
+    editor.mark(tally);
     Ok(())
 }
 
@@ -212,7 +217,10 @@ fn edits_of_b(editor: &mut Editor, tally: &mut Tally) -> Result<(), Difference> 
         place: 0,
         body: Vec::new(),
     };
-    let named: [(Step, &[u8]); 2] = [(Step::Drop { place: 0 }, &A), (empty, &B_WITHOUT_A_BODY)];
+    let named: [(Step, &[u8]); 2] = [
+        (Step::Drop { place: 0 }, &B_WITHOUT_ITS_PAYLOAD),
+        (empty, &B_WITHOUT_A_BODY),
+    ];
     for (step, carrier) in named {
         let source = Source::new(B.to_vec());
         let (_, left) = editor.check_once(&source, &step, carrier.len(), tally)?;
@@ -233,7 +241,7 @@ fn nearly_longest(random: &mut Random) -> [Contents; 4] {
     [one, some, many, most]
 }
 
-/// Each edit at all places, or some of many, and at such as there aren't.
+/// Each edit at all places, or some of many, and at such as there aren't; and some for what is there already.
 fn each_edit(
     contents: &Contents,
     editor: &mut Editor,
@@ -251,7 +259,24 @@ fn each_edit(
     for kind in 4..KINDS {
         editor.check(&source, &steps::draw(kind, 0, 0, random), tally)?;
     }
+    for step in as_it_is(contents, random) {
+        tally.mark(AS_IT_IS);
+        editor.check(&source, &step, tally)?;
+    }
     Ok(())
+}
+
+/// Edits that change nothing but protections, and one that changes nothing.
+fn as_it_is(contents: &Contents, random: &mut Random) -> Vec<Step> {
+    let mut all = vec![scripts::key(contents), scripts::protection(contents)];
+    let count = contents.payloads.len();
+    if count > 0 {
+        let place = random.up_to(count - 1);
+        let payload = &contents.payloads[place];
+        all.push(scripts::body(place, payload));
+        all.push(scripts::settings(place, payload));
+    }
+    all
 }
 
 /// Each edit some times, at any place.

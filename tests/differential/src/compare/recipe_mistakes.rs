@@ -25,6 +25,8 @@ pub enum Fault {
     CarriersLength,
     LengthIn32Bits,
     BuffersLength,
+    ClearsNothing,
+    ClearsLast,
     GoodBeginning,
     // Along the chain.
     OwnIndex,
@@ -60,7 +62,7 @@ const EDGES: &str = "data at every edge, and long chains";
 const HUGE: &str = "recipes and starts of 2^32 bytes";
 const LISTS: &str = "lists of edits and recipes, two at a time";
 
-pub const MISTAKES: [Mistake; 27] = [
+pub const MISTAKES: [Mistake; 29] = [
     Mistake {
         name: "switches buffers after a refused edit",
         fault: Fault::RefusedSwitches,
@@ -115,6 +117,16 @@ pub const MISTAKES: [Mistake; 27] = [
         name: "answers the buffer's length for the carrier's",
         fault: Fault::BuffersLength,
         caught_by: &[ANY, CHAINS, LISTS],
+    },
+    Mistake {
+        name: "leaves the protection with the edits of a recipe",
+        fault: Fault::ClearsNothing,
+        caught_by: &[ANY, DAMAGED, CHAINS, EDGES, LISTS],
+    },
+    Mistake {
+        name: "clears the protection with a recipe's last edit alone",
+        fault: Fault::ClearsLast,
+        caught_by: &[ANY, DAMAGED, CHAINS, EDGES, LISTS],
     },
     Mistake {
         name: "runs the good beginning of a wrong recipe",
@@ -372,11 +384,16 @@ impl Run<'_> {
                 Fault::OtherRoom => self.buffers[1 - aim].len(),
                 _ => self.buffers[aim].len(),
             };
-            let played = self_check::faithful(&Edit {
+            let edit = Edit {
                 source: self.held(),
                 step,
                 destination: room,
-            });
+            };
+            let played = match self.fault {
+                Fault::ClearsNothing => self_check::clears_nothing(&edit),
+                Fault::ClearsLast if turn + 1 < edits.len() => self_check::clears_nothing(&edit),
+                _ => self_check::faithful(&edit),
+            };
             if played.reply.number == ACCEPTED {
                 self.write(aim, &played.written);
             } else {

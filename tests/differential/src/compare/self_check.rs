@@ -84,7 +84,7 @@ const LIMITS: &str = "edits at their limits";
 const BLANK: &str = "blank carriers";
 const LISTS: &str = "lists of edits, two at a time";
 
-const MISTAKES: [Mistake; 19] = [
+const MISTAKES: [Mistake; 32] = [
     Mistake {
         name: "copies the source",
         player: copies_the_source,
@@ -116,14 +116,111 @@ const MISTAKES: [Mistake; 19] = [
         caught_by: &[SHAPES, NOES, BLANK, LISTS],
     },
     Mistake {
-        name: "changes the protection with another edit",
+        name: "leaves the protection with another body",
+        player: |edit| leaves_with(edit, "edit_body"),
+        caught_by: &[SHAPES, ARGUMENTS, NOES, LIMITS, LISTS],
+    },
+    Mistake {
+        name: "leaves the protection with other settings",
+        player: |edit| leaves_with(edit, "edit_settings"),
+        caught_by: &[SHAPES, ARGUMENTS, NOES, LIMITS, LISTS],
+    },
+    Mistake {
+        name: "leaves the protection with a drop",
+        player: |edit| leaves_with(edit, "edit_drop"),
+        caught_by: &[SHAPES, NOES, LIMITS, LISTS],
+    },
+    Mistake {
+        name: "leaves the protection with an insert",
+        player: |edit| leaves_with(edit, "edit_insert"),
+        caught_by: &[SHAPES, ARGUMENTS, NOES, LIMITS, BLANK, LISTS],
+    },
+    Mistake {
+        name: "leaves the protection with another key id",
+        player: |edit| leaves_with(edit, "edit_key"),
+        caught_by: &[SHAPES, ARGUMENTS, NOES, LIMITS, BLANK, LISTS],
+    },
+    Mistake {
+        name: "leaves the protection where nothing else changes",
         player: |edit| {
-            changed(edit, |contents| match edit.step {
-                Step::Protection { .. } | Step::Blank { .. } => {}
-                _ => contents.primary[0] ^= 1,
+            leaves(edit, |contents, source| {
+                if contents.cleared() == source.cleared() {
+                    put_protections(contents, source);
+                }
             })
         },
         caught_by: &[SHAPES, LISTS],
+    },
+    Mistake {
+        name: "leaves the secondary protection",
+        player: |edit| {
+            leaves(edit, |contents, source| {
+                contents.secondary.clone_from(&source.secondary);
+            })
+        },
+        caught_by: &[SHAPES, ARGUMENTS, BLANK, LISTS],
+    },
+    Mistake {
+        name: "clears an octet too few",
+        player: |edit| {
+            leaves(edit, |contents, source| match contents.secondary.len() {
+                0 => keep_last(&mut contents.primary, &source.primary),
+                _ => keep_last(&mut contents.secondary, &source.secondary),
+            })
+        },
+        caught_by: &[SHAPES, ARGUMENTS, BLANK, LISTS],
+    },
+    Mistake {
+        name: "clears from the second bit on",
+        player: |edit| {
+            leaves(edit, |contents, source| {
+                contents.primary[0] = source.primary[0] & 0x80;
+            })
+        },
+        caught_by: &[SHAPES, ARGUMENTS, BLANK, LISTS],
+    },
+    Mistake {
+        name: "sets a bit of a cleared protection",
+        player: |edit| leaves(edit, |contents, _| contents.primary[0] ^= 1),
+        caught_by: &[SHAPES, LISTS],
+    },
+    Mistake {
+        name: "takes a cleared secondary protection out",
+        player: |edit| leaves(edit, |contents, _| contents.secondary.clear()),
+        caught_by: &[SHAPES, ARGUMENTS, BLANK, LISTS],
+    },
+    Mistake {
+        name: "swaps the lengths of cleared protections",
+        player: |edit| {
+            leaves(edit, |contents, _| {
+                if !contents.secondary.is_empty() {
+                    std::mem::swap(&mut contents.primary, &mut contents.secondary);
+                }
+            })
+        },
+        caught_by: &[SHAPES, ARGUMENTS, BLANK, LISTS],
+    },
+    Mistake {
+        name: "clears the protections that it is given",
+        player: |edit| {
+            changed(edit, |contents| {
+                if edit.step.has_source() {
+                    *contents = contents.cleared();
+                }
+            })
+        },
+        caught_by: &[SHAPES, ARGUMENTS, NOES, LIMITS, BLANK, LISTS],
+    },
+    Mistake {
+        name: "clears a blank's protections",
+        player: |edit| {
+            changed(edit, |contents| {
+                if !edit.step.has_source() {
+                    *contents = contents.cleared();
+                }
+            })
+        },
+        caught_by: &[BLANK],
     },
     Mistake {
         name: "puts settings at the neighbour",
@@ -347,6 +444,41 @@ fn changed(edit: &Edit, change: impl FnOnce(&mut Contents)) -> Played {
         change(contents);
     }
     Played::after(&after)
+}
+
+/// An edit that clears protections, with something else done to them that the source's may be needed for.
+fn leaves(edit: &Edit, leave: impl FnOnce(&mut Contents, &Contents)) -> Played {
+    match reading(edit) {
+        Ok(found) if edit.step.clears() => {
+            changed(edit, |contents| leave(contents, &found.contents))
+        }
+        _ => faithful(edit),
+    }
+}
+
+/// This call alone clears nothing.
+fn leaves_with(edit: &Edit, call: &str) -> Played {
+    if edit.step.name() == call {
+        clears_nothing(edit)
+    } else {
+        faithful(edit)
+    }
+}
+
+/// The plain contents' answer, and their carrier with the source's protections.
+#[must_use]
+pub fn clears_nothing(edit: &Edit) -> Played {
+    leaves(edit, put_protections)
+}
+
+fn put_protections(contents: &mut Contents, source: &Contents) {
+    contents.primary.clone_from(&source.primary);
+    contents.secondary.clone_from(&source.secondary);
+}
+
+fn keep_last(protection: &mut [u8], source: &[u8]) {
+    let last = protection.len() - 1;
+    protection[last] = source[last];
 }
 
 /// Another step in this one's place, told how many payloads there are.

@@ -50,6 +50,15 @@ pub struct Contents {
 }
 
 impl Contents {
+    /// The same with zeros for the bytes of both protections.
+    #[must_use]
+    pub fn cleared(&self) -> Self {
+        let mut cleared = self.clone();
+        cleared.primary.fill(0);
+        cleared.secondary.fill(0);
+        cleared
+    }
+
     /// The container's bits, and where each payload's parts stand.
     #[must_use]
     pub fn bits(&self) -> (Bits, Vec<Spans>) {

@@ -78,6 +78,12 @@ impl Step {
         }
     }
 
+    /// Whether it writes zeros over both protections: it is neither handed others nor makes a carrier anew.
+    #[must_use]
+    pub fn clears(&self) -> bool {
+        !matches!(self, Self::Protection { .. } | Self::Blank { .. })
+    }
+
     /// The slices that are handed over, in their order.
     #[must_use]
     pub fn slices(&self) -> [&[u8]; 2] {
@@ -116,9 +122,13 @@ impl Step {
         Ok(copy)
     }
 
-    /// A copy with just what is named replaced; none where bytes are no settings at all.
+    /// A copy with what is named replaced, and protections cleared; none where bytes are no settings at all.
     fn change(&self, contents: &Contents) -> Option<Contents> {
-        let mut copy = contents.clone();
+        let mut copy = if self.clears() {
+            contents.cleared()
+        } else {
+            contents.clone()
+        };
         match self {
             Self::Body { place, body } => copy.payloads[*place].body.clone_from(body),
             Self::Settings { place, settings } => {
