@@ -19,8 +19,9 @@ extern "C" {
 #endif
 
 /* The version of what the calls take and answer. It rises whenever the size or the meaning of an answer, a row, settings or a
-   refusal changes. emdf_version() is the archive's: where the two differ, the header is of another library. */
-#define EMDF_VERSION 2
+   refusal changes, or what a call leaves in a buffer. emdf_version() is the archive's: where the two differ, the header is of
+   another library. */
+#define EMDF_VERSION 3
 uint32_t emdf_version(void);
 
 /* What a call returns: 0, or the number of the refusal, whose figures are the answer's first two numbers (of

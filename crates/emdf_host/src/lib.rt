@@ -23,7 +23,7 @@ use openjoc_emdf::OpenAnswer;
 pub extern "C" fn emdf_version() -> u32
     ensures { λ r. ⌜ r ≡ version ⌝ }
 {
-    2
+    3
 }
 
 #[no_mangle]
