@@ -1,5 +1,4 @@
 // The fields of a carrier, put one after another into a caller's bytes.
-ghost use mathlib.Core.Path.{_≡_};
 ghost use Prim.Native.Nat.{_+_, _*_, _^_, _<_, _≤_};
 ghost use lib.ListN.{length};
 ghost use Rattle.openjoc_bitio.specs.Bits.{numberBits};
