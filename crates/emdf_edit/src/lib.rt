@@ -1,6 +1,6 @@
 // The calls that write a carrier into a caller's destination.
 ghost use mathlib.Core.Path.{_≡_};
-ghost use Prim.Native.Nat.{_+_, _*_};
+ghost use Prim.Native.Nat.{_+_};
 ghost use lib.ListN.{length};
 ghost use Rattle.emdf_format.specs.Edits.{bodyEdit, settingsEdit, dropEdit, insertEdit, keyEdit, protectionEdit, Called};
 ghost use Rattle.emdf_request.specs.Requests.{editOf, newBits};
