@@ -14,7 +14,7 @@ same-length c = search needs
 returns : tie.Need-returns
 returns c =
     let m = c .before .before .before .before .blank-carrier .ensures in
-    rw (← m .0) (c .put-edited .ensures, m .1)
+    (rw (m .0) at (c .put-edited .ensures), m .1)
 
 pub emdf-blank-spec : {M : Type 1} → statement M
 emdf-blank-spec =

@@ -14,7 +14,7 @@ same-length c = search needs
 returns : tie.Need-returns
 returns c =
     let m = c .before .before .before .before .replace-protection .ensures in
-    rw (← m .0) (c .put-edited .ensures, m .1)
+    (rw (m .0) at (c .put-edited .ensures), m .1)
 
 pub emdf-edit-protection-spec : {M : Type 1} → statement M
 emdf-edit-protection-spec =

@@ -14,7 +14,7 @@ same-length c = search needs
 returns : tie.Need-returns
 returns c =
     let m = c .before .before .before .before .move-body .ensures in
-    rw (← m .0) (c .put-moved .ensures, m .1)
+    (rw (m .0) at (c .put-moved .ensures), m .1)
 
 pub emdf-move-body-spec : {M : Type 1} → statement M
 emdf-move-body-spec =

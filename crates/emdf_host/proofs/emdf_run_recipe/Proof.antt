@@ -17,7 +17,7 @@ same-length-2 c = search needs
 returns : tie.Need-returns
 returns c =
     let m = c .before .before .before .before .before .before .run-recipe .ensures in
-    rw (← m .answered) (c .put-ran .ensures, m .first, m .second)
+    (rw (m .answered) at (c .put-ran .ensures), m .first, m .second)
 
 pub emdf-run-recipe-spec : {M : Type 1} → statement M
 emdf-run-recipe-spec =

@@ -27,7 +27,7 @@ returns : tie.Need-returns
 returns c =
     let v = c .before .before .before .before .before .validate-joc-profile-for .ensures in
     let p = c .before .before .before .before .before .before .profile-of .ensures in
-    rw (← p, ← v) (c .verdict-number .ensures, c .before .put-words .ensures ∙ words-whole _ _ (search needs) ∙ ap words (c .before .before .before .before .verdict-words .ensures))
+    (rw (v, p) at (c .verdict-number .ensures), c .before .put-words .ensures ∙ words-whole _ _ (search needs) ∙ ap words (rw (v, p) at (c .before .before .before .before .verdict-words .ensures)))
 
 pub emdf-verdict-spec : {M : Type 1} → statement M
 emdf-verdict-spec =
