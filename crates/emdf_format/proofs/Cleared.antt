@@ -1,26 +1,11 @@
 -- What edits do to the protections: zeros, as many, unless the edit brings them. Assumes nothing.
 use mathlib.Core.Path.{_≡_, refl}
-use mathlib.Core.Bool.{Bool, true, false}
-use mathlib.Core.List.{List}
+use mathlib.Core.Bool.{true}
 use Prim.Native.Nat.{ℕ}
 use lib.ListN.{length, replicate}
 use native.Mathlib.Omega.{arith}
 use Rattle.emdf_format.specs.Contents.{Contents}
-use Rattle.emdf_format.specs.Edits.{Edit, bodyEdit, settingsEdit, dropEdit, insertEdit, keyEdit, protectionEdit, withPayloads, cleared, change}
-
--- all but the edit of the protections
-abbrev pub clears : Edit → Bool
-clears (bodyEdit k bs) = true
-clears (settingsEdit k t) = true
-clears (dropEdit k) = true
-clears (insertEdit k i t bs) = true
-clears (keyEdit i) = true
-clears (protectionEdit a b) = false
-
-pub record Clearing : Type 0 where
-  pub zeros : (e : Edit) (c : Contents) → clears e ≡ true
-      → (change e c .primary ≡ replicate (length (c .primary)) 0) × (change e c .secondary ≡ replicate (length (c .secondary)) 0)
-  pub given : (a b : List ℕ) (c : Contents) → (change (protectionEdit a b) c .primary ≡ a) × (change (protectionEdit a b) c .secondary ≡ b)
+use Rattle.emdf_format.specs.Edits.{Edit, bodyEdit, settingsEdit, dropEdit, insertEdit, keyEdit, protectionEdit, withPayloads, cleared, change, clears, Clearing}
 
 pub clearing : Clearing
 unfolding change withPayloads cleared

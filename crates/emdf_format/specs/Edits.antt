@@ -1,6 +1,6 @@
 -- The six edits: on plain contents, on carriers, and lists of calls; and what is claimed of whole lists. Assumes nothing.
 use mathlib.Core.Path.{_≡_}
-use mathlib.Core.Bool.{Bool, true}
+use mathlib.Core.Bool.{Bool, true, false}
 use mathlib.Core.List.{List, [], _∷_, _++_}
 use mathlib.Core.Logic.{_↔_}
 use Prim.Native.Nat.{ℕ, zero, suc, _+_, _<_, _≤_}
@@ -60,6 +60,21 @@ change (insertEdit k i t bs) c =
     withPayloads (cleared c) (take k (c .payloads) ++ record { id = i; config = t; body = bs } ∷ drop k (c .payloads))
 change (keyEdit i) c = record { key-id = i; payloads = c .payloads; primary = cleared c .primary; secondary = cleared c .secondary }
 change (protectionEdit a b) c = record { key-id = c .key-id; payloads = c .payloads; primary = a; secondary = b }
+
+-- all but the edit of the protections
+abbrev pub clears : Edit → Bool
+clears (bodyEdit k bs) = true
+clears (settingsEdit k t) = true
+clears (dropEdit k) = true
+clears (insertEdit k i t bs) = true
+clears (keyEdit i) = true
+clears (protectionEdit a b) = false
+
+-- an edit leaves zeros for the protections, as many, or those that it brings
+pub record Clearing : Type 0 where
+  pub zeros : (e : Edit) (c : Contents) → clears e ≡ true
+      → (change e c .primary ≡ replicate (length (c .primary)) 0) × (change e c .secondary ≡ replicate (length (c .secondary)) 0)
+  pub given : (a b : List ℕ) (c : Contents) → (change (protectionEdit a b) c .primary ≡ a) × (change (protectionEdit a b) c .secondary ≡ b)
 
 -- 16: does the place exist, in so many payloads?
 unfoldable pub placeExists : Edit → ℕ → Bool
