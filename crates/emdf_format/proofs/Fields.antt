@@ -1,5 +1,5 @@
 -- The fields that settings and payloads are made of: whenPresent reader against its writer. Assumes nothing.
-use mathlib.Core.Path.{_≡_, refl}
+use mathlib.Core.Path.{_≡_, refl, sym, ap, _∙_}
 use mathlib.Core.Bool.{Bool, true, false, not}
 use mathlib.Core.List.{List, [], _∷_}
 use Prim.Native.Nat.{ℕ, zero, suc, _+_, _-_, _^_, _≤_, _<_}
@@ -91,7 +91,8 @@ module _ (w : ℕ) (l : T (leb 1 w & leb w 63)) where
       step (variable w 31 bounds) (bind-inv t₂) λ v p₂ sv lv t₃.
       asked (ask-inv t₃) λ o t₄.
       let d = give-inv t₄ in
-      rw (← d .what, ← d .to, e₁) (escape-stands v (rw e₁ at sb) sv lv (rw e₁ at o)))
+      let r = ap (λ (m : ℕ). m + v) (sym e₁) ∙ d .what in
+      rw (← r, ← d .to) (escape-stands v (rw e₁ at sb) sv lv (rw e₁ at o)))
       λ z t₂.
       let k : b < escape w = omega (arith, ltb→lt b (2 ^ w) lb, top w, neqb→ne b (escape w) z) in
       let d = give-inv t₂ in

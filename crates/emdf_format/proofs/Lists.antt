@@ -1,5 +1,5 @@
 -- The equality of carriers over whole lists of edits, as a law of the definitions. Assumes nothing.
-use mathlib.Core.Path.{_≡_, refl, sym, ap, _∙_}
+use mathlib.Core.Path.{_≡_, refl, sym, ap, subst, _∙_}
 use mathlib.Core.Bool.{Bool, true, false}
 use mathlib.Core.List.{List, [], _∷_, _++_, append-nil}
 use mathlib.Core.Logic.{_↔_}
@@ -187,7 +187,8 @@ stepped-is e {s} {c} room k =
 next-carries : (o : Stepped) {s : List ℕ} {c : Contents} (dst : List ℕ) → Carries s c → ((c′ : Contents) → o ≡ changed c′ → Carries (carrier c′) c′)
     → Carries (nextSource s (stepAnswer o) (written o dst)) (stepContents o c)
 unfolding nextSource stepAnswer written stepContents
-next-carries (changed c′) dst k f = rw (take-at (carrier c′) (drop (carrierLength c′) dst) (carrierLength c′) (length-carrier c′)) (f c′ refl)
+next-carries (changed c′) dst k f =
+    subst (λ (x : List ℕ). Carries x c′) (sym (take-at (carrier c′) (drop (carrierLength c′) dst) (carrierLength c′) (length-carrier c′))) (f c′ refl)
 next-carries (unchanged why) dst k f = k
 
 changed-carries : (e : Edit) (room : ℕ) {s : List ℕ} (c : Contents) → EditBytes e → Carries s c → (c′ : Contents) → step e room c ≡ changed c′ → Carries (carrier c′) c′

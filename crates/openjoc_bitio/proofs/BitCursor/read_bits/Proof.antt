@@ -9,7 +9,7 @@ use Rattle.openjoc_bitio.proofs.BitCursor.read_bits.Tie as tie
 
 returns : tie.Need-returns
 unfolding readBits
-returns c = simp (lt-leb _ _ (c .if1 .taken))
+returns c = simp (lt-leb (c .before .before .args .n) 64 (c .if1 .taken))
 
 bits-remaining-requires : tie.Need-bits-remaining-requires
 bits-remaining-requires c κs = search needs
