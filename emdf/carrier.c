@@ -19,7 +19,7 @@ int load_input(struct input *input, const char *name)
 /* Where the key id ends: a carrier that is read has one, and its escape adds a variable field. */
 static uint64_t find_key_end(const struct input *input, uint64_t bytes)
 {
-    uint8_t answer[EMDF_BIT_ANSWER_BYTES];
+    uint8_t answer[EMDF_FIELD_ANSWER_BYTES];
     size_t length = (size_t)bytes, end = 8 * length;
     emdf_read_bits(input->bytes, length, HEADER_END, end, KEY_WIDTH, answer);
     if (emdf_word(answer, EMDF_VALUE) == KEY_ESCAPE)

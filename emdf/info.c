@@ -53,6 +53,18 @@ static void print_protection(const char *name, const uint8_t *bytes, size_t leng
         printf("none");
 }
 
+static void print_groups(uint64_t largest)
+{
+    if (!largest) {
+        printf(", no variable field");
+        return;
+    }
+    printf(", largest variable field ");
+    print_count(largest, "group");
+    if (largest > EMDF_OLDER_GROUPS)
+        printf(", above the %d of older receivers", EMDF_OLDER_GROUPS);
+}
+
 static void print_container(const struct reading *reading)
 {
     size_t primary_length, secondary_length;
@@ -65,7 +77,9 @@ static void print_container(const struct reading *reading)
     print_protection("secondary", secondary, secondary_length);
     printf(", ");
     print_count(8 * reading->bytes - reading->padding, "bit");
-    puts(" of padding");
+    printf(" of padding");
+    print_groups(emdf_word(reading->answer, EMDF_LARGEST_GROUPS));
+    putchar('\n');
 }
 
 static void print_settings(const uint8_t *settings)
@@ -174,7 +188,7 @@ static void print_json_container(const struct report *report)
     print_json_hex("primary", primary, primary_length);
     putchar(',');
     print_json_hex("secondary", secondary, secondary_length);
-    printf(",\"spans\":{");
+    printf(",\"largest_groups\":%" PRIu64 ",\"spans\":{", emdf_word(reading->answer, EMDF_LARGEST_GROUPS));
     print_json_span("header", 0, 32);
     putchar(',');
     print_json_span("key", 32, reading->key_end);

@@ -21,7 +21,7 @@ extern "C" {
 /* The version of what the calls take and answer. It rises whenever the size or the meaning of an answer, a row, settings or a
    refusal changes, or what a call leaves in a buffer. emdf_version() is the archive's: where the two differ, the header is of
    another library. */
-#define EMDF_VERSION 3
+#define EMDF_VERSION 4
 uint32_t emdf_version(void);
 
 /* What a call returns: 0, or the number of the refusal, whose figures are the answer's first two numbers (of
@@ -62,8 +62,10 @@ enum {
 /* The most bytes that a protection has, and the bytes that it takes in an answer. */
 #define EMDF_PROTECTION_BYTES 16
 
-/* The size in bytes of a bit or field call's answer, and where its six numbers stand (see emdf_word). */
+/* The size in bytes of a bit call's answer, and where its six numbers stand (see emdf_word). The answer of emdf_variable_bits has
+   a seventh. */
 #define EMDF_BIT_ANSWER_BYTES 48
+#define EMDF_FIELD_ANSWER_BYTES 56
 enum {
     EMDF_VALUE = 0,           /* the value read, or a refusal's first figure */
     EMDF_SECOND_FIGURE = 1,   /* a refusal's second figure, or 0 */
@@ -71,11 +73,12 @@ enum {
                                  bit that was read */
     EMDF_END = 3,
     EMDF_WINDOW_POSITION = 4, /* the window of emdf_take_bits, else 0 */
-    EMDF_WINDOW_END = 5
+    EMDF_WINDOW_END = 5,
+    EMDF_GROUPS = 6           /* of emdf_variable_bits: how many groups the field has, 0 where it is refused */
 };
 
-/* The size in bytes of emdf_read's answer, and where its nine numbers stand. */
-#define EMDF_READ_ANSWER_BYTES 72
+/* The size in bytes of emdf_read's answer, and where its ten numbers stand. */
+#define EMDF_READ_ANSWER_BYTES 80
 enum {
     EMDF_BYTES_CONSUMED = 0,
     EMDF_KEY_ID = 1,
@@ -83,14 +86,15 @@ enum {
     EMDF_PRIMARY_LENGTH = 3,
     EMDF_PRIMARY = 4,          /* EMDF_PROTECTION_BYTES, of which the last EMDF_PRIMARY_LENGTH are the protection */
     EMDF_SECONDARY_LENGTH = 6,
-    EMDF_SECONDARY = 7         /* likewise */
+    EMDF_SECONDARY = 7,        /* likewise */
+    EMDF_LARGEST_GROUPS = 9    /* the largest number of groups of a variable field in the carrier; 0 where it has none */
 };
 
 /* The size in bytes of emdf_classify's answer, and where its numbers stand. */
-#define EMDF_CLASS_ANSWER_BYTES 80
+#define EMDF_CLASS_ANSWER_BYTES 88
 enum {
     EMDF_CLASS = 0,
-    EMDF_CLASS_READING = 1,        /* EMDF_PARSED: the nine numbers of emdf_read, from here on */
+    EMDF_CLASS_READING = 1,        /* EMDF_PARSED: the ten numbers of emdf_read, from here on */
     EMDF_CLASS_FIRST_FIGURE = 1,   /* EMDF_MALFORMED: the refusal's figures */
     EMDF_CLASS_SECOND_FIGURE = 2,
     EMDF_CLASS_CONTAINER_BYTES = 1, /* EMDF_TRAILING_DATA */
@@ -118,14 +122,18 @@ enum {
     EMDF_COMPAT = 1
 };
 
-/* The size in bytes of emdf_verdict's answer, and where its four numbers stand. */
-#define EMDF_VERDICT_ANSWER_BYTES 32
+/* The size in bytes of emdf_verdict's answer, and where its five numbers stand. */
+#define EMDF_VERDICT_ANSWER_BYTES 40
 enum {
     EMDF_OAMD_PLACE = 0,
     EMDF_JOC_PLACE = 1,
     EMDF_MARKS = 2,
-    EMDF_DEVIATES = 3 /* 1 where any mark is set, else 0 */
+    EMDF_DEVIATES = 3, /* 1 where any mark is set, else 0 */
+    EMDF_VERDICT_GROUPS = 4 /* as EMDF_LARGEST_GROUPS */
 };
+
+/* The groups that older receivers read in a variable field. */
+#define EMDF_OLDER_GROUPS 4
 
 /* The marks: a setting that is not as the profile wants it, and group ids that are unequal. */
 enum {
@@ -283,7 +291,7 @@ uint32_t emdf_byte_align(const uint8_t *bytes, size_t length, size_t position, s
 /* A variable field. A refused one has the cursor after the last bit that it read. Asked: 5; then of each group 3 (its value
    bits), 7 (the sum), 3 (its more bit) and, where that is 1, 6 (may a group follow?) and 7 (what it starts from). */
 uint32_t emdf_variable_bits(const uint8_t *bytes, size_t length, size_t position, size_t end, uint8_t width, uint8_t limit,
-                            uint8_t answer[EMDF_BIT_ANSWER_BYTES]);
+                            uint8_t answer[EMDF_FIELD_ANSWER_BYTES]);
 
 /* A reading is what each call on a carrier begins with. Asked: 21 (are 4 bytes there?), 2, 1 (are the declared bytes there?);
    then field by field, in the carrier's order, 3 of each read, 7 and 6 of a variable field as above, 7 of its sum with an escape,

@@ -60,11 +60,13 @@ static void print_refusal(uint32_t number, const uint8_t *answer, size_t first)
 
 /* ---- INPUT */
 
-/* nine is emdf_read's answer, or emdf_classify's after the class. */
-static void print_reading(const char *title, const uint8_t *nine)
+/* ten is emdf_read's answer, or emdf_classify's after the class. */
+static void print_reading(const char *title, const uint8_t *ten)
 {
-    printf("%s bytes=%" PRIu64 " key=%" PRIu64 " payloads=%" PRIu64, title, emdf_word(nine, EMDF_BYTES_CONSUMED),
-           emdf_word(nine, EMDF_KEY_ID), emdf_word(nine, EMDF_PAYLOADS));
+    uint64_t groups = emdf_word(ten, EMDF_LARGEST_GROUPS);
+    printf("%s bytes=%" PRIu64 " key=%" PRIu64 " payloads=%" PRIu64 " groups=%" PRIu64 "%s", title,
+           emdf_word(ten, EMDF_BYTES_CONSUMED), emdf_word(ten, EMDF_KEY_ID), emdf_word(ten, EMDF_PAYLOADS), groups,
+           groups > EMDF_OLDER_GROUPS ? " above-older-receivers" : "");
 }
 
 static void print_class(struct panel *panel)

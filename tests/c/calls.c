@@ -16,7 +16,7 @@ const struct facts FACTS[CALLS] = {
     {"emdf_read_bit", EMDF_BIT_ANSWER_BYTES, BIT(0) | BIT(3), 0, 0},
     {"emdf_take_bits", EMDF_BIT_ANSWER_BYTES, BIT(0) | BIT(3), 0, 0},
     {"emdf_byte_align", EMDF_BIT_ANSWER_BYTES, BIT(0) | BIT(3), 0, 0},
-    {"emdf_variable_bits", EMDF_BIT_ANSWER_BYTES, BIT(0) | BIT(3) | BIT(5) | BIT(6) | BIT(7), 0, 0},
+    {"emdf_variable_bits", EMDF_FIELD_ANSWER_BYTES, BIT(0) | BIT(3) | BIT(5) | BIT(6) | BIT(7), 0, 0},
     {"emdf_classify", EMDF_CLASS_ANSWER_BYTES, BIT(0) | CUT | FIELDS_REFUSED, 0, 1},
     {"emdf_read", EMDF_READ_ANSWER_BYTES, READING | BIT(13), 1, 1},
     {"emdf_move_body", EMDF_MOVE_ANSWER_BYTES, READING | BIT(16) | BIT(19), 1, 1},

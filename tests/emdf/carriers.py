@@ -35,7 +35,8 @@ SMALL = {
     # Room for the places of the ruler: ten payloads a column or two apart.
     "twelve": Carrier([(1 + k, DISCARD, b"\xee" * k) for k in range(12)]),
 }
-SMALL |= {"key-%d" % key: Carrier([], key) for key in (1, 6, 7, 15, 16, 2**32, 2**63, 2**64 - 1)}
+# 4,686 is the largest key id of four groups.
+SMALL |= {"key-%d" % key: Carrier([], key) for key in (1, 6, 7, 15, 16, 4686, 4687, 2**32, 2**63, 2**64 - 1)}
 SMALL |= {"id-%d" % ident: Carrier([(ident, DISCARD, b"\xc3")]) for ident in (30, 31, 32, 62, 63, 2**32, 2**64 - 1)}
 # Protections: every pair of lengths.
 SMALL |= {

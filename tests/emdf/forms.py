@@ -1,5 +1,6 @@
 """What emdf is to say of a file, by its man page and the scope. Spans come from the writer that wrote the carrier, verdicts
 from the model of the profile, refusals are stated with the files that meet them."""
+from models.groups import largest
 from models.profile import FIELDS, found, marks_word, verdict
 from models.refused import HEXADECIMAL, WORDS
 from models.writer import Writer
@@ -11,6 +12,12 @@ NAMES = {11: "OAMD", 14: "JOC"}
 
 def counted(n, noun):
     return "%d %s%s" % (n, noun, "" if n == 1 else "s")
+
+
+def groups_text(most):
+    if not most:
+        return "no variable field"
+    return "largest variable field %s%s" % (counted(most, "group"), ", above the 4 of older receivers" if most > 4 else "")
 
 
 def refusal_text(number, figures=()):
@@ -108,6 +115,7 @@ class Carrier:
         self.padding = w.place()
         self.carrier = w.carrier()
         self.data = self.carrier + more
+        self.groups = largest(key, payloads)
         self.verdicts = {profile: verdict(profile, [payload[:2] for payload in payloads]) for profile in ("strict", "compat")}
 
     def spans(self):
@@ -139,6 +147,7 @@ class Carrier:
             "primary protection " + self.primary.hex(),
             "secondary protection " + (self.secondary.hex() or "none"),
             counted(8 * len(self.carrier) - self.padding, "bit") + " of padding",
+            groups_text(self.groups),
         ]
         return "  container: " + ", ".join(parts)
 
@@ -157,6 +166,7 @@ class Carrier:
             "payloads": len(self.payloads),
             "primary": self.primary.hex(),
             "secondary": self.secondary.hex(),
+            "largest_groups": self.groups,
             "spans": before | after,
         }
         said = {"file": name, "bytes": len(self.data), "class": "trailing-data" if self.more else "parsed"}

@@ -121,6 +121,7 @@ static void check_constants(void)
     insert(carrier, &length, 0, 11, emdf_settings_profile, "OAMD");
     insert(carrier, &length, 1, 14, emdf_settings_profile, "JOC");
     expect(!emdf_verdict(carrier, length, EMDF_STRICT, verdict) && !emdf_word(verdict, EMDF_MARKS), "the profile's settings");
+    expect(emdf_word(verdict, EMDF_VERDICT_GROUPS) == 1, "the profile's settings: a group for each field");
 }
 
 int main(void)

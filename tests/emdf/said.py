@@ -89,7 +89,7 @@ def alone(files):
 # ---- worked out by hand from the scope
 
 INFO_OF_A = b"""a: parsed: one carrier of 7 bytes
-  container: 7 bytes, key id 0, 0 payloads, primary protection a5, secondary protection none, 2 bits of padding
+  container: 7 bytes, key id 0, 0 payloads, primary protection a5, secondary protection none, 2 bits of padding, no variable field
   ruler, 1 bit a mark: h sync word and length, k version and key id, i id, s settings, z size, b body, e end mark, c protection codes, p protection, x padding
     hhhhhhhhhhhhhhhhhhhhhhhhhhhhhhhhkkkkkeeeeeccccppppppppxx
   refused by strict, 14: not one OAMD and one JOC payload (oamd 0, joc 0)
@@ -98,7 +98,7 @@ INFO_OF_A = b"""a: parsed: one carrier of 7 bytes
 # 88 bits are 44 marks of 2: 16 of the header; bits 36 and 37 are one of each part, so the first one's mark; then bits 37 to
 # 41 id, 42 to 46 settings, 47 to 55 size, 56 to 63 body, 64 to 68 end mark, 69 to 72 codes, 73 to 80 protection, 81 to 87.
 INFO_OF_B = b"""b: parsed: one carrier of 11 bytes
-  container: 11 bytes, key id 0, 1 payload, primary protection a5, secondary protection none, 7 bits of padding
+  container: 11 bytes, key id 0, 1 payload, primary protection a5, secondary protection none, 7 bits of padding, largest variable field 1 group
   ruler, 2 bits a mark: h sync word and length, k version and key id, i id, s settings, z size, b body, e end mark, c protection codes, p protection, x padding
     hhhhhhhhhhhhhhhhkkkiissszzzzbbbbeeeccppppxxx
                       0
@@ -106,6 +106,15 @@ INFO_OF_B = b"""b: parsed: one carrier of 11 bytes
     settings: codec_data_present=0 discard_unknown_payload=1
     spans: id 37..42, settings 42..47, size 47..56, body 56..64
     body: 1 byte at byte 7: c3
+  refused by strict, 14: not one OAMD and one JOC payload (oamd 0, joc 0)
+  refused by compat, 14: not one OAMD and one JOC payload (oamd 0, joc 0)
+"""
+# A key id of 7 + 4,680: 8 + 64 + 512 + 4,096 - 1 is the most that four groups hold. Bits 32 to 56 are version and key id, 57 to 61
+# end mark, 62 to 65 codes, 66 to 73 protection, 74 to 79 padding.
+INFO_OF_FIVE = b"""five: parsed: one carrier of 10 bytes
+  container: 10 bytes, key id 4687, 0 payloads, primary protection a5, secondary protection none, 6 bits of padding, largest variable field 5 groups, above the 4 of older receivers
+  ruler, 2 bits a mark: h sync word and length, k version and key id, i id, s settings, z size, b body, e end mark, c protection codes, p protection, x padding
+    hhhhhhhhhhhhhhhhkkkkkkkkkkkkkeeccppppxxx
   refused by strict, 14: not one OAMD and one JOC payload (oamd 0, joc 0)
   refused by compat, 14: not one OAMD and one JOC payload (oamd 0, joc 0)
 """
@@ -142,6 +151,8 @@ def by_hand():
     without = WANTED | {"group_id": None}
     yield case("by hand: info of A", ["info", "a"], {"a": A}, out=INFO_OF_A)
     yield case("by hand: info of B", ["info", "b"], {"b": bytes.fromhex("58380007004202c3025280")}, out=INFO_OF_B)
+    five = {"five": bytes.fromhex("58380006388888012940")}
+    yield case("by hand: info of five groups", ["info", "five"], five, out=INFO_OF_FIVE)
     seven = pair(BARE, WANTED | {"codec": 0})
     accepted = b"x: accepted by compat: OAMD at place 0, JOC at place 1 (marks 0x0023e8, deviations 7)\n"
     refused = b"x: refused by strict, 15: the profile is not met (marks 0x0023e8, deviations 7)\n"

@@ -4,6 +4,7 @@
 #include <stdlib.h>
 #include <string.h>
 
+#include "groups_model.h"
 #include "lent.h"
 #include "recipe_model.h"
 
@@ -212,6 +213,23 @@ static struct outcome perform_in_room(const struct request *r, const struct inpu
     return o;
 }
 
+/* ---- groups */
+
+/* What is counted in each answer that has a number of groups; it is 0 in those that refuse or have another class. A field is as
+   long as its groups. */
+static void check_groups(const struct request *r, const struct outcome *o, const struct reading *own)
+{
+    uint64_t groups = emdf_word(o->answer, groups_word(r->call)), wanted = 0;
+    int is_counted = counts_groups(r->call, o->number, o->answer);
+
+    if (is_counted)
+        wanted = r->call == VARIABLE_BITS ? groups_of(r->width, emdf_word(o->answer, EMDF_VALUE)) : largest_groups(own);
+    if (groups != wanted)
+        failed("another number of groups than the values have");
+    if (is_counted && r->call == VARIABLE_BITS && emdf_word(o->answer, EMDF_POSITION) != r->position + (r->width + 1) * groups)
+        failed("another number of groups than were read");
+}
+
 /* ---- readings */
 
 static void read_carrier(const uint8_t *bytes, size_t length, struct reading *own, uint8_t *table)
@@ -228,6 +246,7 @@ static void read_carrier(const uint8_t *bytes, size_t length, struct reading *ow
     memcpy(own->answer, o.answer, sizeof own->answer);
     memcpy(table, o.bytes, o.filled);
     own->rows = table;
+    check_groups(&r, &o, own);
 }
 
 static void check_class(const struct outcome *o, const struct reading *own, const struct slice *s)
@@ -576,6 +595,8 @@ static void examine_call(const struct request *r, const struct input *in, const 
 
     if (FACTS[r->call].has_carrier)
         check_reading(r, &o, own);
+    if (has_groups(r->call))
+        check_groups(r, &o, own);
     if (is_edit(r->call) && o.number == 0)
         check_edit(r, &o, own);
 }

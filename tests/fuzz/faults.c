@@ -2,6 +2,7 @@
 
 #include <string.h>
 
+#include "groups_model.h"
 #include "input.h"
 #include "recipe_model.h"
 
@@ -310,6 +311,106 @@ static uint32_t clears_blank_protections(const struct request *r)
     return call_with_zeros(r, BLANK);
 }
 
+/* ---- groups that are counted wrongly */
+
+enum counting { SMALLEST, ESCAPES_TOO, NO_SIZES, NO_KEY, NONE_AT_ALL };
+
+struct count {
+    enum counting counting;
+    int has_any;
+    uint64_t groups;
+};
+
+static void count_field(void *with, enum field field, uint64_t groups)
+{
+    struct count *count = with;
+
+    if ((count->counting == NO_SIZES && field == FIELD_SIZE) || (count->counting == NO_KEY && field == FIELD_KEY))
+        return;
+    if (count->counting == ESCAPES_TOO && (field == FIELD_KEY || field == FIELD_ID))
+        groups++;
+    if (!count->has_any || (count->counting == SMALLEST ? groups < count->groups : groups > count->groups))
+        count->groups = groups;
+    count->has_any = 1;
+}
+
+static uint64_t count_wrongly(const struct slice *source, enum counting counting)
+{
+    static uint8_t table[(size_t)EMDF_PAYLOADS_MOST * EMDF_ROW_BYTES];
+    struct count count = {counting, 0, 0};
+    struct reading own;
+
+    own.number = emdf_read(source->bytes, source->length, table, sizeof table, own.answer);
+    own.rows = table;
+    if (counting != NONE_AT_ALL)
+        each_field(&own, count_field, &count);
+    return count.groups;
+}
+
+static uint32_t call_counting(const struct request *r, enum counting counting)
+{
+    uint32_t number = make_call(r);
+
+    if (r->call != VARIABLE_BITS && counts_groups(r->call, number, r->answer))
+        emdf_set_word(r->answer, groups_word(r->call), count_wrongly(&r->source, counting));
+    return number;
+}
+
+static uint32_t answers_smallest_groups(const struct request *r)
+{
+    return call_counting(r, SMALLEST);
+}
+
+static uint32_t counts_escapes(const struct request *r)
+{
+    return call_counting(r, ESCAPES_TOO);
+}
+
+static uint32_t leaves_sizes_out(const struct request *r)
+{
+    return call_counting(r, NO_SIZES);
+}
+
+static uint32_t leaves_key_out(const struct request *r)
+{
+    return call_counting(r, NO_KEY);
+}
+
+static uint32_t answers_no_groups(const struct request *r)
+{
+    return call_counting(r, NONE_AT_ALL);
+}
+
+/* The bits that say more, of which a field has one fewer than groups. */
+static uint32_t counts_more_bits(const struct request *r)
+{
+    uint32_t number = make_call(r);
+
+    if (r->call == VARIABLE_BITS && number == 0)
+        emdf_set_word(r->answer, EMDF_GROUPS, emdf_word(r->answer, EMDF_GROUPS) - 1);
+    return number;
+}
+
+/* As if a field had a group before its bits are all there. */
+static uint32_t counts_refused_groups(const struct request *r)
+{
+    uint32_t number = make_call(r);
+
+    if (r->call == VARIABLE_BITS && number == EMDF_END_OF_INPUT)
+        emdf_set_word(r->answer, EMDF_GROUPS, 1);
+    return number;
+}
+
+/* A verdict that refuses answers them, too. */
+static uint32_t counts_for_refused_verdict(const struct request *r)
+{
+    uint32_t number = make_call(r);
+
+    if (r->call == VERDICT && number == EMDF_PAYLOAD_COUNT)
+        emdf_set_word(r->answer, EMDF_VERDICT_GROUPS, 1);
+    return number;
+}
+
 /* ---- recipes that are checked wrongly */
 
 /* Leads along the chain as far as it is one: the record after a record, which may be the first of all, or 0. */
@@ -607,6 +708,14 @@ const struct fault FAULTS[] = {
     {"leaves the protections where nothing else changes", leaves_what_it_finds},
     {"clears the protections that an edit brings", clears_brought_protections},
     {"clears the protections of a blank carrier", clears_blank_protections},
+    {"answers the smallest number of groups", answers_smallest_groups},
+    {"counts an escape as a group", counts_escapes},
+    {"leaves the groups of sizes out", leaves_sizes_out},
+    {"leaves the groups of the key id out", leaves_key_out},
+    {"answers no groups", answers_no_groups},
+    {"counts the bits that say more", counts_more_bits},
+    {"counts the groups of a refused field", counts_refused_groups},
+    {"counts the groups for a refused verdict", counts_for_refused_verdict},
     {"does not end", ends_never},
     {"takes a next index that is the record's own", takes_own_index},
     {"adds offset and length in 32 bits", adds_in_32_bits},

@@ -1,6 +1,6 @@
-/* What emdf.h says of its version, of protections that edits clear, and of slices. Length 0 with NULL is an empty slice, in each
-   argument of each call: what has to come out was taken from the scope. Slices that are only read may overlap: the call answers
-   as if they lay apart. */
+/* What emdf.h says of its version, of protections that edits clear, of numbers of groups, and of slices. Length 0 with NULL is an
+   empty slice, in each argument of each call: what has to come out was taken from the scope. Slices that are only read may
+   overlap: the call answers as if they lay apart. */
 #include <stdio.h>
 #include <string.h>
 
@@ -17,6 +17,11 @@ static const uint8_t CLEARED_B[] = {0x58, 0x38, 0x00, 0x07, 0x00, 0x42, 0x02, 0x
 static const uint8_t B_EMPTY[] = {0x58, 0x38, 0x00, 0x06, 0x00, 0x42, 0x00, 0x02, 0x00, 0x00};
 static const uint8_t UNALIGNED[] = {0x58, 0x38, 0x00, 0x07, 0x00, 0x40, 0x01, 0x61, 0x81, 0x29, 0x40};
 static const uint8_t A5[] = {0xa5}, C3[] = {0xc3};
+
+/* A key id of five groups, 7 + 4,680, at bit 37: 8 + 64 + 512 + 4,096 - 1 is the most that four hold. And OAMD and JOC, with seven
+   deviations that compat lets pass. */
+static const uint8_t FIVE_GROUPS[] = {0x58, 0x38, 0x00, 0x06, 0x38, 0x88, 0x88, 0x01, 0x29, 0x40};
+static const uint8_t PAIR[] = {0x58, 0x38, 0x00, 0x0a, 0x02, 0xc8, 0x00, 0x07, 0x10, 0x40, 0x00, 0x00, 0x25, 0x28};
 
 /* Recipes: without an edit; drop(0); body(0, empty) and then drop(0), which make B_EMPTY and CLEARED_A of B; a record outside the
    file; a kind that isn't listed. */
@@ -84,6 +89,7 @@ static void expect(const char *call, uint32_t number, size_t answer_bytes, const
 /* Words that aren't named are 0. */
 #define WORDS(...) ((const uint64_t[1 + WORDS_MOST]){__VA_ARGS__})
 #define BITS(call, ...) expect(#call, call, EMDF_BIT_ANSWER_BYTES, NONE, WORDS(__VA_ARGS__))
+#define FIELD(call, ...) expect(#call, call, EMDF_FIELD_ANSWER_BYTES, NONE, WORDS(__VA_ARGS__))
 #define CLASS(call, ...) expect(#call, call, EMDF_CLASS_ANSWER_BYTES, NONE, WORDS(__VA_ARGS__))
 #define READING(call, ...) expect(#call, call, EMDF_READ_ANSWER_BYTES, NONE, WORDS(__VA_ARGS__))
 #define BODY(call, ...) expect(#call, call, EMDF_MOVE_ANSWER_BYTES, NONE, WORDS(__VA_ARGS__))
@@ -108,9 +114,9 @@ static void check_bits(void)
     BITS(emdf_take_bits(NONE, 0, 16, 9, answer), EMDF_END_OF_INPUT, 9, 0, 0, 16);
     BITS(emdf_byte_align(NONE, 0, 0, answer), EMDF_ACCEPTED);
     BITS(emdf_byte_align(NONE, 3, 8, answer), EMDF_END_OF_INPUT, 5, 0, 3, 8);
-    BITS(emdf_variable_bits(NONE, 0, 0, 2, 3, answer), EMDF_END_OF_INPUT, 2, 0);
-    BITS(emdf_variable_bits(NONE, 0, 64, 63, 1, answer), EMDF_END_OF_INPUT, 63, 0, 0, 64);
-    BITS(emdf_variable_bits(NONE, 0, 0, 0, 3, answer), EMDF_INVALID_VARIABLE_BITS, 0, 3);
+    FIELD(emdf_variable_bits(NONE, 0, 0, 2, 3, answer), EMDF_END_OF_INPUT, 2, 0);
+    FIELD(emdf_variable_bits(NONE, 0, 64, 63, 1, answer), EMDF_END_OF_INPUT, 63, 0, 0, 64);
+    FIELD(emdf_variable_bits(NONE, 0, 0, 0, 3, answer), EMDF_INVALID_VARIABLE_BITS, 0, 3);
 }
 
 static void check_carriers(void)
@@ -118,7 +124,7 @@ static void check_carriers(void)
     CLASS(emdf_classify(NONE, answer), EMDF_ACCEPTED, EMDF_NON_EMDF);
     READING(emdf_read(NONE, NONE, answer), EMDF_TRUNCATED_HEADER, 4, 0);
     READING(emdf_read(NONE, OF(room), answer), EMDF_TRUNCATED_HEADER, 4, 0);
-    READING(emdf_read(OF(A), NONE, answer), EMDF_ACCEPTED, sizeof A, 0, 0, 1, 0, 0xa5, 0, 0, 0);
+    READING(emdf_read(OF(A), NONE, answer), EMDF_ACCEPTED, sizeof A, 0, 0, 1, 0, 0xa5, 0, 0, 0, 0);
     READING(emdf_read(OF(B), NONE, answer), EMDF_TABLE_TOO_SHORT, 1);
     BODY(emdf_move_body(NONE, 0, NONE, answer), EMDF_TRUNCATED_HEADER, 4, 0);
     BODY(emdf_move_body(NONE, 0, OF(room), answer), EMDF_TRUNCATED_HEADER, 4, 0);
@@ -128,6 +134,21 @@ static void check_carriers(void)
     BODY(emdf_move_body(OF(UNALIGNED), 0, NONE, answer), EMDF_SCRATCH_TOO_SHORT, 1);
     VERDICT(emdf_verdict(NONE, EMDF_STRICT, answer), EMDF_TRUNCATED_HEADER, 4, 0);
     VERDICT(emdf_verdict(NONE, EMDF_COMPAT, answer), EMDF_TRUNCATED_HEADER, 4, 0);
+}
+
+/* Where a call accepts; 0 where it refuses, and where a carrier has no variable field. */
+static void check_groups(void)
+{
+    FIELD(emdf_variable_bits(OF(FIVE_GROUPS), 37, 80, 3, 31, answer), EMDF_ACCEPTED, 4680, 0, 57, 80, 0, 0, 5);
+    FIELD(emdf_variable_bits(OF(FIVE_GROUPS), 53, 80, 3, 31, answer), EMDF_ACCEPTED, 0, 0, 57, 80, 0, 0, 1);
+    FIELD(emdf_variable_bits(OF(FIVE_GROUPS), 37, 80, 3, 4, answer), EMDF_VARIABLE_BITS_GROUP_LIMIT, 3, 4, 53, 80, 0, 0, 0);
+    READING(emdf_read(OF(FIVE_GROUPS), NONE, answer), EMDF_ACCEPTED, sizeof FIVE_GROUPS, 4687, 0, 1, 0, 0xa5, 0, 0, 0, 5);
+    CLASS(emdf_classify(OF(FIVE_GROUPS), answer), EMDF_ACCEPTED, EMDF_PARSED, sizeof FIVE_GROUPS, 4687, 0, 1, 0, 0xa5, 0, 0, 0, 5);
+    CLASS(emdf_classify(OF(A), answer), EMDF_ACCEPTED, EMDF_PARSED, sizeof A, 0, 0, 1, 0, 0xa5, 0, 0, 0, 0);
+    CLASS(emdf_classify(OF(B), answer), EMDF_ACCEPTED, EMDF_PARSED, sizeof B, 0, 1, 1, 0, 0xa5, 0, 0, 0, 1);
+    VERDICT(emdf_verdict(OF(PAIR), EMDF_COMPAT, answer), EMDF_ACCEPTED, 0, 1, 0x0023e8, 1, 1);
+    VERDICT(emdf_verdict(OF(PAIR), EMDF_STRICT, answer), EMDF_CONFIGURATION, 0x0023e8, 7, 0, 0, 0);
+    VERDICT(emdf_verdict(OF(B), EMDF_COMPAT, answer), EMDF_PAYLOAD_COUNT, 0, 0, 0, 0, 0);
 }
 
 static void check_sources(void)
@@ -337,6 +358,7 @@ int main(void)
     check_version();
     check_bits();
     check_carriers();
+    check_groups();
     check_sources();
     check_contents();
     check_protections();
@@ -345,7 +367,7 @@ int main(void)
     check_runs();
     check_overlaps();
     check_recipe_overlaps();
-    printf("host: the version, cleared protections, slices that are empty or overlap: %u checks, %u failures\n", checks,
+    printf("host: the version, cleared protections, groups, slices that are empty or overlap: %u checks, %u failures\n", checks,
            failures);
     return failures != 0;
 }

@@ -1,5 +1,6 @@
 """What the panel is to answer of a file, by the scope. No code of the library or of the panel is used: spans come from
 the writer that wrote the carrier, verdicts from the model of the profile, refusals are stated with the carriers that meet them."""
+from models.groups import largest
 from models.profile import FIELDS, found, marks_word, verdict
 from models.refused import HEXADECIMAL, WORDS
 from models.writer import Writer
@@ -55,9 +56,11 @@ class Carrier:
         w.end(primary, secondary)
         self.length = len(w.carrier())
         self.data = w.carrier() + more
+        self.groups = largest(key, payloads)
 
     def reading(self):
-        return "bytes=%d key=%d payloads=%d" % (self.length, self.key, len(self.payloads))
+        above = " above-older-receivers" if self.groups > 4 else ""
+        return "bytes=%d key=%d payloads=%d groups=%d%s" % (self.length, self.key, len(self.payloads), self.groups, above)
 
     def input(self):
         what = "parsed " + self.reading()

@@ -33,6 +33,9 @@ FILES = {
     "no-group-id": Carrier([(11, WANTED | {"group_id": None}, b""), (14, WANTED | {"group_id": None}, b"")]),
     # Every setting, large numbers, both protections.
     "large": Carrier([(2**64 - 1, TIMED, bytes(300)), (31, WANTED, b"\x80")], 2**64 - 1, b"\x11" * 16, b"\x22" * 4),
+    # 7 + 8 + 64 + 512 + 4,096 - 1 is the largest key id of four groups.
+    "four-groups": Carrier([], 4686),
+    "five-groups": Carrier([], 4687),
     # Lengths and counts.
     "longest": Carrier([(1, DISCARD, LONGEST_BODY)]),
     "many": Carrier([(1, DISCARD, b"\xc3")] * 510 + [(14, WANTED, b"\x0e"), (11, BARE, b"\x0b")]),

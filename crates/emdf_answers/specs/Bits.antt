@@ -21,21 +21,20 @@ use Rattle.emdf_format.specs.declared.Figures.{Figures}
 use Rattle.emdf_answers.specs.Form.{words}
 use Rattle.emdf_answers.specs.declared.BitReply.{BitReply}
 
--- the 48 bytes of an answer
-unfoldable pub replyBytes : BitReply → List ℕ
-replyBytes r =
-    words
-    (r .first
+-- the six numbers of an answer
+abbrev pub replyWords : BitReply → List ℕ
+replyWords r =
+    r .first
     ∷ r .second
     ∷ r .cursor .position
     ∷ r .cursor .end
     ∷ r .window .position
     ∷ r .window .end
-    ∷ [])
+    ∷ []
 
 -- what is returned and written is the reply
 abbrev pub BitReplies : BitReply → ℕ → List ℕ → Type 0
-BitReplies a r answer = (r ≡ a .number) × (answer ≡ replyBytes a)
+BitReplies a r answer = (r ≡ a .number) × (answer ≡ words (replyWords a))
 
 -- a number, two figures, and a cursor
 abbrev pub figuresAt : BitCursor → Figures → BitReply

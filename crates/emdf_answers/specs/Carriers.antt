@@ -22,7 +22,7 @@ use Rattle.openjoc_emdf.specs.declared.CarrierClassification.the-variants as Ca
 use Rattle.emdf_answers.specs.Form.{rowBytes, words}
 use Rattle.emdf_answers.specs.Replies.{Reply, padded, acceptedReply, refusedReply, twoReply, Replies}
 
--- ---- a reading's answer: 9 numbers
+-- ---- a reading's answer: 10 numbers
 
 -- its length, and its bytes as a number of 128 bits, in two halves
 abbrev pub protectionWords : ProtectionBytes → List ℕ
@@ -30,7 +30,12 @@ protectionWords b = b .length .0 ∷ b .high ∷ b .low ∷ []
 
 abbrev pub parsedWords : ParsedEmdf → List ℕ
 parsedWords p =
-    p .«bytes_consumed» .0 ∷ p .container .«key_id» ∷ p .container .payloads ∷ protectionWords (p .container .protection .primary) ++ protectionWords (p .container .protection .secondary)
+    p .«bytes_consumed» .0
+    ∷ p .container .«key_id»
+    ∷ p .container .payloads
+    ∷ protectionWords (p .container .protection .primary)
+    ++ protectionWords (p .container .protection .secondary)
+    ++ (p .container .«largest_groups» ∷ [])
 
 -- the carrier s read into a table of so many bytes
 unfoldable pub readInto : List ℕ → List ℕ → Records
@@ -38,7 +43,7 @@ readInto s table = inTable (length table / rowBytes) (reading s)
 
 unfoldable pub readReply : Records → Reply
 readReply (recorded n c) = acceptedReply (parsedWords (parsedEmdf n c))
-readReply (unrecorded why) = refusedReply 9 (figuresOf (recordsRefusal why))
+readReply (unrecorded why) = refusedReply 10 (figuresOf (recordsRefusal why))
 
 -- ---- the table: a row of 27 numbers a payload
 
@@ -86,15 +91,15 @@ rowsAfter (unrecorded why) table = table
 abbrev pub ReadReplies : Records → ℕ → List ℕ → List ℕ → List ℕ → Type 0
 ReadReplies t r answer table exit = Replies (readReply t) r answer × (exit ≡ rowsAfter t table)
 
--- ---- a classification's answer: 10 numbers, the first of them the class
+-- ---- a classification's answer: 11 numbers, the first of them the class
 
 abbrev pub malformedReply : Figures → Reply
-malformedReply f = record { number = f .number; numbers = 3 ∷ refusedReply 9 f .numbers }
+malformedReply f = record { number = f .number; numbers = 3 ∷ refusedReply 10 f .numbers }
 
 unfoldable pub classReply : CarrierClassification → Reply
-classReply CarrierClassification.NonEmdf = acceptedReply (padded 10 [])
+classReply CarrierClassification.NonEmdf = acceptedReply (padded 11 [])
 classReply (CarrierClassification.Parsed p) = acceptedReply (1 ∷ parsedWords p)
-classReply (CarrierClassification.TrailingData n len) = acceptedReply (padded 10 (2 ∷ n .0 ∷ len .0 ∷ []))
+classReply (CarrierClassification.TrailingData n len) = acceptedReply (padded 11 (2 ∷ n .0 ∷ len .0 ∷ []))
 classReply (CarrierClassification.Malformed why) = malformedReply (figuresOf (refusalOf why))
 
 -- ---- a body's move: 2 numbers

@@ -22,4 +22,4 @@ words (v ∷ vs) = bigEndian 8 v ++ words vs
 -- the version of the forms: it rises whenever the size or the meaning of an answer, a row, settings or a refusal changes, or what
 -- a call leaves
 unfoldable pub version : ℕ
-version = 3
+version = 4

@@ -19,7 +19,7 @@ abbrev pub statusWord : JocValidationStatus → ℕ
 statusWord NormativeCompliant = 0
 statusWord AcceptedWithDeviation = 1
 
--- accepted: the places of the OAMD and the JOC payload, the marks, whether any is set
+-- accepted: the places of the OAMD and the JOC payload, the marks, whether any is set, the largest number of groups
 unfoldable pub verdictReply : JocProfileAnswer → Reply
-verdictReply (Accepted v) = acceptedReply (v .oamd ∷ v .joc ∷ v .deviations ∷ statusWord (v .status) ∷ [])
-verdictReply (Refused why) = refusedReply 4 (figuresOf (profileRefusal why))
+verdictReply (Accepted v) = acceptedReply (v .oamd ∷ v .joc ∷ v .deviations ∷ statusWord (v .status) ∷ v .«largest_groups» ∷ [])
+verdictReply (Refused why) = refusedReply 5 (figuresOf (profileRefusal why))

@@ -10,7 +10,7 @@ ghost use Rattle.emdf_answers.specs.Replies.{padded};
 ghost use Rattle.emdf_answers.specs.Carriers.{parsedWords, optionalWords, configWords, traceWords, classReply, moveFigures};
 ghost use Rattle.emdf_answers.specs.Verdict.{profileOf, verdictReply, statusWord};
 ghost use Rattle.emdf_answers.specs.Edits.{editedFigures};
-use emdf_fields::FieldAnswer;
+use emdf_fields::VariableAnswer;
 use emdf_format::BodyAnswer;
 use emdf_format::EditAnswer;
 use emdf_format::EmdfError;
@@ -43,12 +43,24 @@ pub struct BitReply {
     pub window: BitCursor,
 }
 
-pub fn field_reply(answer: FieldAnswer) -> BitReply
+// The same of a variable field, and how many groups it has.
+pub struct FieldReply {
+    pub reply: BitReply,
+    pub groups: u64,
+}
+
+pub fn field_reply(answer: VariableAnswer) -> FieldReply
     ensures { λ r. ⌜ r ≡ fieldReply answer ⌝ }
 {
     match answer {
-        FieldAnswer::Value(value, next) => accepted_at(next, value),
-        FieldAnswer::Refused(why, at) => refused_at(at, why),
+        VariableAnswer::Value(value, groups, next) => FieldReply {
+            reply: accepted_at(next, value),
+            groups: groups as u64,
+        },
+        VariableAnswer::Refused(why, at) => FieldReply {
+            reply: refused_at(at, why),
+            groups: 0,
+        },
     }
 }
 
@@ -128,12 +140,12 @@ fn figures_at(cursor: BitCursor, f: Figures) -> BitReply
     }
 }
 
-// The class, and nine numbers.
-pub fn class_words(class: CarrierClassification) -> [u64; 10]
+// The class, and ten numbers.
+pub fn class_words(class: CarrierClassification) -> [u64; 11]
     ensures { λ r. ⌜ r ≡ classReply class .numbers ⌝ }
 {
     match class {
-        CarrierClassification::NonEmdf => [0; 10],
+        CarrierClassification::NonEmdf => [0; 11],
         CarrierClassification::Parsed(parsed) => with_class(1, parsed_words(parsed)),
         CarrierClassification::TrailingData {
             container_bytes,
@@ -143,6 +155,7 @@ pub fn class_words(class: CarrierClassification) -> [u64; 10]
             [
                 container_bytes.0 as u64,
                 carrier_bytes.0 as u64,
+                0,
                 0,
                 0,
                 0,
@@ -168,14 +181,26 @@ pub fn class_number(class: CarrierClassification) -> u32
     }
 }
 
-fn with_class(class: u64, w: [u64; 9]) -> [u64; 10]
+fn with_class(class: u64, w: [u64; 10]) -> [u64; 11]
     ensures { λ r. ⌜ r ≡ class ∷ w ⌝ }
 {
-    [class, w[0], w[1], w[2], w[3], w[4], w[5], w[6], w[7], w[8]]
+    [
+        class,
+        w[0],
+        w[1],
+        w[2],
+        w[3],
+        w[4],
+        w[5],
+        w[6],
+        w[7],
+        w[8],
+        w[9],
+    ]
 }
 
-// An accepted reading's nine numbers.
-pub fn parsed_words(p: ParsedEmdf) -> [u64; 9]
+// An accepted reading's ten numbers.
+pub fn parsed_words(p: ParsedEmdf) -> [u64; 10]
     ensures { λ r. ⌜ r ≡ parsedWords p ⌝ }
 {
     let c = p.container;
@@ -191,14 +216,15 @@ pub fn parsed_words(p: ParsedEmdf) -> [u64; 9]
         secondary.length.0 as u64,
         secondary.high,
         secondary.low,
+        c.largest_groups as u64,
     ]
 }
 
-// Two figures, in the place of nine numbers.
-pub fn figure_words(f: Figures) -> [u64; 9]
-    ensures { λ r. ⌜ r ≡ padded 9 (f .first ∷ f .second ∷ []) ⌝ }
+// Two figures, in the place of ten numbers.
+pub fn figure_words(f: Figures) -> [u64; 10]
+    ensures { λ r. ⌜ r ≡ padded 10 (f .first ∷ f .second ∷ []) ⌝ }
 {
-    [f.first, f.second, 0, 0, 0, 0, 0, 0, 0]
+    [f.first, f.second, 0, 0, 0, 0, 0, 0, 0, 0]
 }
 
 // The ten settings as 18 numbers, in the order in which they are written.
@@ -303,8 +329,8 @@ pub fn profile_of(number: u32) -> JocValidationProfile
     JocValidationProfile::ObservedVendorCompat
 }
 
-// Both places, the marks and whether any is set, or a refusal's figures.
-pub fn verdict_words(judged: JocProfileAnswer) -> [u64; 4]
+// Both places, the marks, whether any is set and the largest number of groups, or a refusal's figures.
+pub fn verdict_words(judged: JocProfileAnswer) -> [u64; 5]
     ensures { λ r. ⌜ r ≡ verdictReply judged .numbers ⌝ }
 {
     match judged {
@@ -315,11 +341,12 @@ pub fn verdict_words(judged: JocProfileAnswer) -> [u64; 4]
                 v.joc as u64,
                 v.deviations as u64,
                 status_word(status),
+                v.largest_groups as u64,
             ]
         }
         JocProfileAnswer::Refused(why) => {
             let f = figures_of(profile_refusal(why));
-            [f.first, f.second, 0, 0]
+            [f.first, f.second, 0, 0, 0]
         }
     }
 }

@@ -377,6 +377,13 @@ module _ {s : List ℕ} {p m x : ℕ} (w : Word s p m x) (l : m ≤ 64) (e : ℕ
           two-groups 8 0 s e p (lit< tt) (lit≤ tt) (λ v u f g. omega (arith, f, g)) a (ap (λ (q : ℕ). bitsValue s q 1) (sym c) ∙ b) refl j ∙ rw (f₁, f₂)
       by-first false i false f k j = absurd (omega arith)
 
+-- two words that start there say the same of a size
+pub same-size : {s : List ℕ} {p m n x y : ℕ} → Word s p m x → Word s p n y → 18 ≤ m → 18 ≤ n → (sizeLength x ≡ sizeLength y) × (sizeValue x ≡ sizeValue y)
+unfolding sizeLength sizeValue
+same-size {s} {p} {m} {n} {x} {y} w v h k =
+    let t : (i : ℕ) → i ≤ 18 → top i x ≡ top i y = λ i l. w .is i (omega arith) ∙ sym (v .is i (omega arith)) in
+    (rw (t 9 (lit≤ tt), t 18 (lit≤ tt)), rw (t 9 (lit≤ tt), t 8 (lit≤ tt), t 17 (lit≤ tt)))
+
 -- ---- what a head's length says
 
 pub record Head (x : ℕ) : Type 0 where

@@ -11,7 +11,7 @@ use Rattle.openjoc_bitio.specs.Choice.{if_then_else_}
 use Rattle.emdf_format.specs.Contents.{_&_, isPresent}
 use Rattle.emdf_format.specs.declared.Optional.the-variants.{Absent, Present}
 use Rattle.emdf_fields.specs.Word.{top, after}
-use Rattle.emdf_compact.specs.Words.{flaggedSpan, flaggedValue, flaggedEnds, variableSpan, variableEnds, codecSpan, codecEnds, controlsSpan, compactSettings, configLength}
+use Rattle.emdf_compact.specs.Words.{flaggedSpan, flaggedValue, flaggedEnds, variableSpan, variableEnds, codecSpan, codecEnds, controlsSpan, compactSettings, configLength, twoGroups, groupedLength}
 
 -- ---- spans
 
@@ -90,6 +90,43 @@ shortest x h =
     let f4 = codec-clear (x * 2 * 2 * 2) l4 in
     let d = eq-eqb (top 1 (x * 2 * 2 * 2 * 2)) 1 (omega arith) in
     simp (shifted, f1 .0, f1 .1, f2 .0, f2 .1, f3 .0, f3 .1, f4 .0, f4 .1, d)
+
+shortest-once : (x : ℕ) → x / 2 ^ 59 ≡ 1 → (twoGroups x ≡ false) × (compactSettings x ≡ true)
+unfolding twoGroups compactSettings _&_
+shortest-once x h =
+    let l1 : x < 2 ^ 63 = omega arith in
+    let l2 : x * 2 < 2 ^ 63 = omega arith in
+    let l3 : x * 2 * 2 < 2 ^ 63 = omega arith in
+    let l4 : x * 2 * 2 * 2 < 2 ^ 63 = omega arith in
+    let f1 = flag-clear 11 x l1 in
+    let f2 = flag-clear 11 (x * 2) l2 in
+    let f3 = variable-clear 2 (x * 2 * 2) l3 in
+    let f4 = codec-clear (x * 2 * 2 * 2) l4 in
+    (simp (shifted, f1 .0, f2 .0, f3 .0), simp (shifted, f1 .0, f1 .1, f2 .0, f2 .1, f3 .0, f3 .1, f4 .0, f4 .1))
+
+pub shortest-grouped : (x : ℕ) → x / 2 ^ 59 ≡ 1 → groupedLength x ≡ 5
+unfolding groupedLength
+shortest-grouped x h = let (t, c) = shortest-once x h in rw (c, t, shortest x h)
+
+-- ---- a group id of two groups takes 7 bits, and no other as many
+
+pub span-seven : (y : ℕ) → variableSpan 2 y ≤ 7
+unfolding variableSpan
+span-seven y = by (eqb (top 1 y) 0) (eqb (top 4 y % 2) 0)
+  where
+    by : (t u : Bool) → _≤_ (if t then 1 else (if u then 4 else 7)) 7
+    by true u = omega arith
+    by false true = omega arith
+    by false false = omega arith
+
+pub span-mark : (y : ℕ) → 128 * ((variableSpan 2 y + 1) / 8) ≡ (if eqb (variableSpan 2 y) 7 then 128 else 0)
+unfolding variableSpan
+span-mark y = by (eqb (top 1 y) 0) (eqb (top 4 y % 2) 0)
+  where
+    by : (t u : Bool) → let n : ℕ = if t then 1 else (if u then 4 else 7) in 128 * ((n + 1) / 8) ≡ (if eqb n 7 then 128 else 0)
+    by true u = refl
+    by false true = refl
+    by false false = refl
 
 -- ---- a value of two groups
 

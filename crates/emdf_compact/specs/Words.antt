@@ -110,6 +110,13 @@ compactConfig x =
 unfoldable pub configLength : ℕ → ℕ
 configLength x = if compactSettings x then headSpan x + controlsSpan (isPresent (flaggedValue 11 x)) (afterCodec x) else 64
 
+-- whether their group id has two groups; 128 more bits than there are say so
+unfoldable pub twoGroups : ℕ → Bool
+twoGroups x = eqb (variableSpan 2 (afterTiming x)) 7
+
+unfoldable pub groupedLength : ℕ → ℕ
+groupedLength x = if compactSettings x then configLength x + (if twoGroups x then 128 else 0) else 64
+
 -- ---- an id and settings, and a size
 
 -- how many bits an id below the escape and compact settings take, or the id 0 alone; 0 where it is neither
@@ -118,6 +125,13 @@ headLength x =
     if eqb (top 5 x) 0
     then 5
     else (if eqb (top 5 x) 31 then 0 else (if eqb (configLength (after 5 x)) 64 then 0 else 5 + configLength (after 5 x)))
+
+-- the same, and 128 more where a group id of two groups is in it
+unfoldable pub groupedHead : ℕ → ℕ
+groupedHead x =
+    if eqb (top 5 x) 0
+    then 5
+    else (if eqb (top 5 x) 31 then 0 else (if eqb (groupedLength (after 5 x)) 64 then 0 else 5 + groupedLength (after 5 x)))
 
 -- a size of one group or two: how many bits it takes, 0 where it has more; and the size
 unfoldable pub sizeLength : ℕ → ℕ

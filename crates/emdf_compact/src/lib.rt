@@ -1,7 +1,7 @@
 // Settings and sizes that lie in words of 64 bits, read without a cursor.
 ghost use mathlib.Core.Path.{_≡_};
 ghost use Prim.Native.Nat.{_≤_};
-ghost use Rattle.emdf_compact.specs.Words.{flaggedSpan, flaggedValue, flaggedEnds, variableSpan, variableValue, variableEnds, codecSpan, codecEnds, presentSpan, presentValue, controlsSpan, compactControls, compactConfig, configLength, headLength, sizeLength, sizeValue};
+ghost use Rattle.emdf_compact.specs.Words.{flaggedSpan, flaggedValue, flaggedEnds, variableSpan, variableValue, variableEnds, codecSpan, codecEnds, presentSpan, presentValue, controlsSpan, compactControls, compactConfig, configLength, groupedLength, groupedHead, sizeLength, sizeValue};
 ghost use Rattle.openjoc_bitio.specs.Choice.{if_then_else_};
 use emdf_format::EmdfPayloadConfig;
 use emdf_format::Optional;
@@ -122,6 +122,13 @@ fn controls_length(x: u64, offset: bool) -> u64
 pub fn config_length(x: u64) -> u64
     ensures { λ r. ⌜ (r ≡ configLength x) × (r ≤ 64) ⌝ }
 {
+    grouped_length(x) % 128
+}
+
+// The same, and 128 more where their group id has two groups; they have no other field of more than one.
+fn grouped_length(x: u64) -> u64
+    ensures { λ r. ⌜ (r ≡ groupedLength x) × (r ≤ 192) ⌝ }
+{
     // The shortest settings, nothing but discard, which many payloads have.
     if x >> 59 == 1 {
         return 5;
@@ -131,7 +138,7 @@ pub fn config_length(x: u64) -> u64
 
 // The same, part by part.
 fn parts_length(x: u64) -> u64
-    ensures { λ r. ⌜ (r ≡ configLength x) × (r ≤ 64) ⌝ }
+    ensures { λ r. ⌜ (r ≡ groupedLength x) × (r ≤ 192) ⌝ }
 {
     let offset = flagged_length(x, 11);
     if offset == 64 {
@@ -156,12 +163,14 @@ fn parts_length(x: u64) -> u64
     if 41 < head {
         return 64;
     }
-    head + controls_length(x3 << codec, offset == 13)
+    // A group id takes 1, 4 or 7 bits.
+    head + controls_length(x3 << codec, offset == 13) + 128 * ((group + 1) / 8)
 }
 
-// An id below the escape and compact settings, or the id 0 alone: how many bits that is. 0 where it is neither.
+// An id below the escape and compact settings, or the id 0 alone: how many bits that is, and 128 more as above. 0 where it is
+// neither.
 pub fn head_length(x: u64) -> u64
-    ensures { λ r. ⌜ r ≡ headLength x ⌝ }
+    ensures { λ r. ⌜ r ≡ groupedHead x ⌝ }
 {
     let id = x >> 59;
     if id == 0 {
@@ -170,7 +179,7 @@ pub fn head_length(x: u64) -> u64
     if id == 31 {
         return 0;
     }
-    let config = config_length(x << 5);
+    let config = grouped_length(x << 5);
     if config == 64 {
         return 0;
     }

@@ -10,7 +10,9 @@ use Rattle.openjoc_bitio.specs.Bits.{bitsValue}
 use Rattle.openjoc_bitio.specs.Cursor.{bitsRemaining}
 use Rattle.openjoc_bitio.specs.declared.BitCursor.{BitCursor}
 use Rattle.emdf_format.specs.Reader.{Read, got, refused, Reader, _>>=_, give, cursorAt, remaining}
-use Rattle.emdf_format.specs.Reading.{payloads, padding, Container, containerEnd}
+use Rattle.emdf_format.specs.Reading.{Found, payloads, padding, Container, containerEnd, payloadsOf, contentsOf}
+use Rattle.emdf_format.specs.Syntax.{extendedGroups}
+use Rattle.emdf_format.specs.Groups.{larger, payloadsGroups, largestGroups}
 use Rattle.emdf_format.specs.declared.EmdfError.{EmdfError}
 use Rattle.emdf_container.specs.declared.ProtectionBytes.{ProtectionBytes}
 use Rattle.emdf_container.specs.declared.BytesAnswer.{BytesAnswer}
@@ -62,7 +64,12 @@ containerOf c = record {
   «key_id» = c .key-id;
   payloads = length (c .found);
   protection = record { primary = protectionBytes (c .primary); secondary = protectionBytes (c .secondary) };
+  «largest_groups» = largestGroups (contentsOf c);
 }
+
+-- the largest number of groups of a key id and payloads
+abbrev pub groupsWith : ℕ → List Found → ℕ
+groupsWith key xs = larger (extendedGroups 3 key) (payloadsGroups (payloadsOf xs))
 
 -- what follows the key id: the end of emdf_format's container
 unfoldable pub containerAfter : ℕ → Reader Container

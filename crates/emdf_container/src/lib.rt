@@ -11,10 +11,11 @@ ghost use mathlib.Core.List.{List};
 ghost use lib.ListN.{length};
 ghost use Rattle.openjoc_bitio.specs.Bits.{bitsValue};
 ghost use Rattle.emdf_fields.specs.Fields.{fieldAnswer};
-ghost use Rattle.emdf_container.specs.Container.{protectionBytes, bytesAnswer, valueThere, paddingValue, IsEnd, containerAfter, containerAnswer, bytesError};
+ghost use Rattle.emdf_container.specs.Container.{protectionBytes, bytesAnswer, valueThere, paddingValue, IsEnd, groupsWith, containerAfter, containerAnswer, bytesError};
 use emdf_fields::CountAnswer;
 use emdf_fields::FieldAnswer;
 use emdf_format::EmdfError;
+use emdf_payloads::ListAnswer;
 use openjoc_bitio::BitCursor;
 use openjoc_bitio::BitsAnswer;
 use openjoc_bitio::ByteCount;
@@ -32,11 +33,12 @@ pub struct EmdfProtection {
     pub secondary: ProtectionBytes,
 }
 
-// A container: its key id, how many payloads it has, and its protection.
+// A container: its key id, how many payloads it has, its protection, and the largest number of groups of a variable field in it.
 pub struct EmdfContainer {
     pub key_id: u64,
     pub payloads: usize,
     pub protection: EmdfProtection,
+    pub largest_groups: usize,
 }
 
 // What a container answers.
@@ -129,8 +131,8 @@ fn bytes_error(a: BytesAnswer) -> EmdfError
 }
 
 // What follows the payloads: protection, and padding to the end. An end that is accepted is read through words.
-fn container_end(s: &[u8], c: BitCursor, key: u64, count: usize) -> ContainerAnswer
-    ensures { λ r. ⌜ ((xs : List Found) → length xs ≡ count → r ≡ containerAnswer (c .end) (containerEnd key xs (now (s .entry)) (c .end) (c .position))) ⌝ }
+fn container_end(s: &[u8], c: BitCursor, key: u64, count: usize, most: usize) -> ContainerAnswer
+    ensures { λ r. ⌜ ((xs : List Found) → length xs ≡ count → groupsWith key xs ≡ most → r ≡ containerAnswer (c .end) (containerEnd key xs (now (s .entry)) (c .end) (c .position))) ⌝ }
 {
     let p = c.position;
     let end = c.end;
@@ -139,7 +141,7 @@ fn container_end(s: &[u8], c: BitCursor, key: u64, count: usize) -> ContainerAns
     let first = protection_length(x >> 62);
     let second = protection_length((x >> 60) % 4);
     if !is_end(s, p, left, first, second) {
-        return end_by_fields(s, BitCursor { position: p, end }, key, count);
+        return end_by_fields(s, BitCursor { position: p, end }, key, count, most);
     }
     let primary = protection_at(s, p + 4, first);
     let secondary = protection_at(s, p + 4 + first * 8, second);
@@ -148,6 +150,7 @@ fn container_end(s: &[u8], c: BitCursor, key: u64, count: usize) -> ContainerAns
         key_id: key,
         payloads: count,
         protection,
+        largest_groups: most,
     })
 }
 
@@ -207,8 +210,8 @@ fn word_at(s: &[u8], p: usize) -> u64
 }
 
 // The same field by field, which tells why an end is refused.
-fn end_by_fields(s: &[u8], c: BitCursor, key: u64, count: usize) -> ContainerAnswer
-    ensures { λ r. ⌜ ((xs : List Found) → length xs ≡ count → r ≡ containerAnswer (c .end) (containerEnd key xs (now (s .entry)) (c .end) (c .position))) ⌝ }
+fn end_by_fields(s: &[u8], c: BitCursor, key: u64, count: usize, most: usize) -> ContainerAnswer
+    ensures { λ r. ⌜ ((xs : List Found) → length xs ≡ count → groupsWith key xs ≡ most → r ≡ containerAnswer (c .end) (containerEnd key xs (now (s .entry)) (c .end) (c .position))) ⌝ }
 {
     let a1 = emdf_fields::read_bits(s, c, 2);
     let FieldAnswer::Value(primary_code, c1) = a1 else {
@@ -238,6 +241,7 @@ fn end_by_fields(s: &[u8], c: BitCursor, key: u64, count: usize) -> ContainerAns
         key_id: key,
         payloads: count,
         protection,
+        largest_groups: most,
     })
 }
 
@@ -287,8 +291,9 @@ fn parse_payloads(s: &[u8], c: BitCursor, key: u64) -> ContainerAnswer
     ensures { λ r. ⌜ r ≡ containerAnswer (c .end) (containerAfter key (now (s .entry)) (c .end) (c .position)) ⌝ }
 {
     let a = emdf_payloads::count_payloads(s, c);
-    let CountAnswer::Counted(count, c1) = a else {
-        return ContainerAnswer::Refused(emdf_fields::count_error(a));
+    let ListAnswer::List(count, most, c1) = a else {
+        return ContainerAnswer::Refused(emdf_payloads::list_error(a));
     };
-    container_end(s, c1, key, count)
+    let groups = emdf_measure::extended_groups(3, 7, key);
+    container_end(s, c1, key, count, emdf_measure::larger(groups, most))
 }

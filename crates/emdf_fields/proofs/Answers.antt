@@ -3,18 +3,22 @@
 use mathlib.Core.Path.{_≡_, refl, sym, ap, _∙_}
 use mathlib.Core.Bool.{Bool, true, false, not}
 use mathlib.Core.List.{List}
-use Prim.Native.Nat.{ℕ}
+use Prim.Native.Nat.{ℕ, _+_, _-_, _*_, _/_, _<_}
 use native.Mathlib.Omega.{arith}
+use native.Mathlib.Nat.{mul-div-cancel-left}
 use lib.ListN.{length}
 use lib.Dec.{T}
 use Rattle.openjoc_bitio.specs.declared.BitCursor.{BitCursor}
-use Rattle.emdf_format.specs.Reader.{Read, got, refused, Reader, _>>=_, give, ask, choose, cursorAt, position}
+use Rattle.emdf_format.specs.Syntax.{groups}
+use Rattle.emdf_format.specs.Reader.{Read, got, refused, Reader, _>>=_, give, ask, choose, cursorAt, position, variableBits}
 use Rattle.emdf_format.specs.declared.EmdfError.{EmdfError}
 use Rattle.emdf_format.proofs.Payloads.{at-go}
 use Rattle.emdf_format.proofs.Standing.{bind-go, bind-no, ask-go, ask-refuses, choose-this, choose-that, bind-assoc, choose-bind, give-bind}
-use Rattle.emdf_fields.specs.Fields.{fieldAnswer, countAnswer, fieldError, countError}
+use Rattle.emdf_format.proofs.Groups.{field-groups}
+use Rattle.emdf_fields.specs.Fields.{fieldAnswer, variableAnswer, countAnswer, fieldError, countError}
 use Rattle.emdf_fields.specs.declared.FieldAnswer.{FieldAnswer}
 use Rattle.emdf_fields.specs.declared.FieldAnswer.the-variants.{Value, Refused}
+use Rattle.emdf_fields.specs.declared.VariableAnswer.the-variants as VariableAnswer
 use Rattle.emdf_fields.specs.declared.CountAnswer.{CountAnswer}
 use Rattle.emdf_fields.specs.declared.CountAnswer.the-variants as CountAnswer
 
@@ -44,6 +48,23 @@ field-ended {e} (refused why′ q) {why} {c} h =
     let a : why′ ≡ why = cc in
     let b : cursorAt e q ≡ c = cc in
     record { is = rw (a, ← b); end = rw (← b) }
+
+-- a variable field that is found takes so many bits, and one that is refused is refused
+pub variable-found : (w lim : ℕ) (s : List ℕ) (c : BitCursor) {v : ℕ} {next : BitCursor} → fieldAnswer (c .end) (variableBits w lim s (c .end) (c .position)) ≡ Value v next
+    → (next .position ≡ c .position + (w + 1) * groups w v) × (VariableAnswer.Value v (groups w v) next ≡ variableAnswer w (c .end) (variableBits w lim s (c .end) (c .position)))
+unfolding variableAnswer
+variable-found w lim s c {v} {next} h =
+    let d = field-found (variableBits w lim s (c .end) (c .position)) h in
+    (field-groups w lim s (c .end) (c .position) (d .is), rw (d .is, ← d .end))
+
+pub variable-ended : (w lim : ℕ) (s : List ℕ) (c : BitCursor) {why : EmdfError} {next : BitCursor} → fieldAnswer (c .end) (variableBits w lim s (c .end) (c .position)) ≡ Refused why next
+    → VariableAnswer.Refused why next ≡ variableAnswer w (c .end) (variableBits w lim s (c .end) (c .position))
+unfolding variableAnswer
+variable-ended w lim s c h = let d = field-ended (variableBits w lim s (c .end) (c .position)) h in rw (d .is, ← d .end)
+
+-- so many groups of k bits are so many
+pub groups-over : (p q k g : ℕ) → 0 < k → q ≡ p + k * g → (q - p) / k ≡ g
+groups-over p q k g h e = let z : q - p ≡ k * g = omega (arith, e) in rw z (mul-div-cancel-left g h)
 
 pub count-found : {A : Type 0} (e : ℕ) (x : Read (List A)) {n : ℕ} {c : BitCursor} → countAnswer e x ≡ CountAnswer.Counted n c → (xs : List A) × (length xs ≡ n) × Found x e xs c
 unfolding countAnswer

@@ -4,11 +4,14 @@ use Prim.Native.Nat.{ℕ, _+_, _*_, _^_}
 use lib.ListN.{length}
 use lib.Dec.{ltb, eqb}
 use Rattle.openjoc_bitio.specs.Choice.{if_then_else_}
+use Rattle.emdf_format.specs.Syntax.{groups}
 use Rattle.emdf_format.specs.Reader.{Read, got, refused, Reader, _>>=_, give, ask, choose, cursorAt, bits}
 use Rattle.emdf_format.specs.declared.EmdfError.{EmdfError}
 use Rattle.emdf_format.specs.declared.EmdfError.the-variants.{VariableBitsGroupLimit, ValueOverflow}
 use Rattle.emdf_fields.specs.declared.FieldAnswer.{FieldAnswer}
 use Rattle.emdf_fields.specs.declared.FieldAnswer.the-variants as FieldAnswer
+use Rattle.emdf_fields.specs.declared.VariableAnswer.{VariableAnswer}
+use Rattle.emdf_fields.specs.declared.VariableAnswer.the-variants as VariableAnswer
 use Rattle.emdf_fields.specs.declared.CountAnswer.{CountAnswer}
 use Rattle.emdf_fields.specs.declared.CountAnswer.the-variants as CountAnswer
 use Rattle.emdf_fields.specs.declared.GroupAnswer.{GroupAnswer}
@@ -19,6 +22,11 @@ use Rattle.emdf_fields.specs.declared.StartAnswer.the-variants as StartA
 unfoldable pub fieldAnswer : ℕ → Read ℕ → FieldAnswer
 fieldAnswer e (got v q) = FieldAnswer.Value v (cursorAt e q)
 fieldAnswer e (refused why q) = FieldAnswer.Refused why (cursorAt e q)
+
+-- a variable field of groups of w bits, with how many groups its value takes
+unfoldable pub variableAnswer : ℕ → ℕ → Read ℕ → VariableAnswer
+variableAnswer w e (got v q) = VariableAnswer.Value v (groups w v) (cursorAt e q)
+variableAnswer w e (refused why q) = VariableAnswer.Refused why (cursorAt e q)
 
 -- how many there are of what a reader lists
 unfoldable pub countAnswer : {A : Type 0} → ℕ → Read (List A) → CountAnswer

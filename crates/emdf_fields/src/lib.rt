@@ -3,7 +3,7 @@ ghost use mathlib.Core.Path.{_≡_};
 ghost use Prim.Native.Nat.{_+_, _-_, _*_, _^_, _<_};
 ghost use Rattle.emdf_format.specs.Syntax.{escape as ones};
 ghost use Rattle.emdf_format.specs.Reader.{bits, groupsFrom, variableBits, extendedValue, octets};
-ghost use Rattle.emdf_fields.specs.Fields.{fieldAnswer, groupAnswer, startAnswer, refusedGroup, oneGroup, groupOf, groupRest, countAnswer, fieldError, countError};
+ghost use Rattle.emdf_fields.specs.Fields.{fieldAnswer, variableAnswer, groupAnswer, startAnswer, refusedGroup, oneGroup, groupOf, groupRest, countAnswer, fieldError, countError};
 use emdf_format::EmdfError;
 use emdf_format::MAX_EXTENDED_GROUPS;
 use openjoc_bitio::BitCursor;
@@ -16,7 +16,13 @@ pub enum FieldAnswer {
     Refused(EmdfError, BitCursor),
 }
 
-// How many octets or payloads there are, and the cursor past them.
+// A variable field's answer: its value, how many groups it has, and the cursor past them.
+pub enum VariableAnswer {
+    Value(u64, usize, BitCursor),
+    Refused(EmdfError, BitCursor),
+}
+
+// How many octets there are, and the cursor past them.
 pub enum CountAnswer {
     Counted(usize, BitCursor),
     Refused(EmdfError),
@@ -45,8 +51,22 @@ pub fn read_bits(s: &[u8], c: BitCursor, n: u8) -> FieldAnswer
     }
 }
 
-// A variable field: groups of width value bits and a more bit, at most limit of them.
-pub fn variable_bits(s: &[u8], c: BitCursor, width: u8, limit: u8) -> FieldAnswer
+// A variable field: groups of width value bits and a more bit, at most limit of them; and how many they are.
+pub fn variable_bits(s: &[u8], c: BitCursor, width: u8, limit: u8) -> VariableAnswer
+    ensures { λ r. ⌜ r ≡ variableAnswer width (c .end) (variableBits width limit (now (s .entry)) (c .end) (c .position)) ⌝ }
+{
+    let start = c.position;
+    match variable_field(s, c, width, limit) {
+        FieldAnswer::Value(value, next) => {
+            let groups = (next.position - start) / (width as usize + 1);
+            VariableAnswer::Value(value, groups, next)
+        }
+        FieldAnswer::Refused(why, next) => VariableAnswer::Refused(why, next),
+    }
+}
+
+// The same as a field, for callers who know the groups from the value.
+pub fn variable_field(s: &[u8], c: BitCursor, width: u8, limit: u8) -> FieldAnswer
     ensures { λ r. ⌜ r ≡ fieldAnswer (c .end) (variableBits width limit (now (s .entry)) (c .end) (c .position)) ⌝ }
 {
     if width == 0 {
@@ -220,7 +240,7 @@ pub fn extended_value(s: &[u8], c: BitCursor, escape: u64, width: u8) -> FieldAn
     if base != escape {
         return FieldAnswer::Value(base, c1);
     }
-    let b = variable_bits(s, c1, width, MAX_EXTENDED_GROUPS);
+    let b = variable_field(s, c1, width, MAX_EXTENDED_GROUPS);
     let FieldAnswer::Value(value, c2) = b else {
         return b;
     };

@@ -12,7 +12,7 @@ use Rattle.openjoc_bitio.proofs.Bits.{length-number}
 use Rattle.emdf_format.specs.declared.Optional.{Optional}
 use Rattle.emdf_format.specs.declared.Optional.the-variants.{Absent, Present}
 use Rattle.emdf_format.specs.declared.EmdfPayloadConfig.{EmdfPayloadConfig}
-use Rattle.emdf_format.specs.Syntax.{variableField, groups, escape, extendedField, flaggedField, presentField}
+use Rattle.emdf_format.specs.Syntax.{_⨟_, variableField, groups, escape, extendedField, extendedGroups, flaggedField, presentField}
 use Rattle.emdf_format.specs.Contents.{Payload, Contents, codecDataBits, sampleOffsetBits, configBits, payloadBits, payloadsBits, protectionBits, containerBits, extensionBits, flaggedBits, presentBits, neededConfig, neededPayload, neededPayloads, neededBits}
 use Rattle.emdf_format.proofs.Standing.{length-then}
 use Rattle.emdf_format.proofs.Variable.{length-field}
@@ -20,17 +20,13 @@ use Rattle.emdf_format.proofs.Payloads.{length-octets}
 
 -- ---- the bits formula
 
-length-if : (t : Bool) (xs ys : List ℕ) → length (if t then xs else ys) ≡ (if t then length xs else length ys)
-length-if true xs ys = refl
-length-if false xs ys = refl
-
-if-add : (t : Bool) (w x : ℕ) → (if t then w else w + x) ≡ w + (if t then 0 else x)
-if-add true w x = omega arith
-if-add false w x = refl
-
 pub length-extended : (w v : ℕ) → length (extendedField w v) ≡ w + extensionBits w v
-unfolding extendedField extensionBits
-length-extended w v = rw length-if (simp (length-then, length-number, length-field) (if-add (ltb v (escape w)) w ((w + 1) * groups w (v - escape w))))
+unfolding extendedField extensionBits extendedGroups
+length-extended w v = by (ltb v (escape w))
+  where
+    by : (t : Bool) → length (if t then numberBits w v else numberBits w (escape w) ⨟ variableField w (v - escape w)) ≡ w + (w + 1) * (if t then 0 else groups w (v - escape w))
+    by true = rw length-number (omega arith)
+    by false = simp (length-then, length-number, length-field)
 
 length-flagged : (wr : ℕ → List ℕ) (f : ℕ → ℕ) (o : Optional) → ((v : ℕ) → length (wr v) ≡ f v) → length (flaggedField wr o) ≡ flaggedBits f o
 unfolding flaggedField flaggedBits

@@ -13,3 +13,4 @@ pub mod Starred
 pub mod Loops
 pub mod Splice
 pub mod Cleared
+pub mod Groups

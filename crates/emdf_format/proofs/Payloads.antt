@@ -134,7 +134,7 @@ pub record After (s : List ℕ) (e p₀ p q id : ℕ) (x : Found) : Type 0 where
   pub config : T (writableConfig (x .record-of .config))
   pub bytes : T (allBytes (x .body))
 
-after-sound : (p₀ id : ℕ) {s : List ℕ} {e p q : ℕ} {x : Found} → payloadAfter p₀ id s e p ≡ got x q → After s e p₀ p q id x
+pub after-sound : (p₀ id : ℕ) {s : List ℕ} {e p q : ℕ} {x : Found} → payloadAfter p₀ id s e p ≡ got x q → After s e p₀ p q id x
 unfolding payloadAfter sized
 after-sound p₀ id {s} {e} {p} {q} h =
     taken (bind-inv h) λ a p₁ h₁ t₁.

@@ -16,7 +16,7 @@ use Rattle.emdf_format.specs.declared.Refusal.the-variants.{One, Two}
 use Rattle.emdf_format.specs.declared.JocValidationProfile.the-variants.{EtsiStrict, ObservedVendorCompat}
 use Rattle.emdf_format.specs.declared.EditError.the-variants.{DestinationTooShort}
 use Rattle.emdf_format.specs.declared.EditAnswer.the-variants.{Written, Refused}
-use Rattle.emdf_format.specs.Syntax.{_⨟_, groupsBefore, variableField, countBefore, groups, escape, extendedField, octetBits, flaggedField, presentField}
+use Rattle.emdf_format.specs.Syntax.{_⨟_, groupsBefore, variableField, countBefore, groups, escape, extendedField, extendedGroups, octetBits, flaggedField, presentField}
 use Rattle.emdf_format.specs.Contents.{_&_, iff, isPresent, isOne, whenPresent, upTo, hasAligned, hasPriority, presentAsRuled, writableConfig, writablePayload, writablePayloads, protectionLength, protectionCode, codable, writable, extensionBits, flaggedBits, presentBits, neededConfig, neededPayload, neededPayloads, neededBits, declared, sampleOffsetBits, codecDataBits, configBits, payloadBits, payloadsBits, protectionBits, containerBits, carrierBits, bitsNumber, bytesOf, carrier}
 use Rattle.emdf_format.specs.Reader.{andThen, _>>=_, give, ask, choose, position, remaining, fromBits, bits, groupsFrom, variableBits, extendedValue, octets, present, flagged}
 use Rattle.emdf_format.specs.Reading.{reserved, sampleOffset, codecData, configControls, payloadConfig, Found, traceOf, payloadAfter, payloads, Container, padding, containerEnd, container, accepted, refusal, consumed, reading, payloadsOf, contentsOf}
@@ -97,7 +97,7 @@ pub record Starred : Type 0 where
   pub size-256 : length (variableField 8 256) ≡ 18
 
 pub starred : Starred
-unfolding bitAt bitsValue numberBits bitLength bitsRemaining readBits _⨟_ groupsBefore variableField countBefore groups escape extendedField octetBits flaggedField presentField _&_ iff isPresent isOne whenPresent upTo hasAligned hasPriority presentAsRuled writableConfig writablePayload writablePayloads protectionLength protectionCode codable writable extensionBits flaggedBits presentBits neededConfig neededPayload neededPayloads neededBits declared sampleOffsetBits codecDataBits configBits payloadBits payloadsBits protectionBits containerBits carrierBits bitsNumber bytesOf carrier andThen _>>=_ give ask choose position remaining fromBits bits groupsFrom variableBits extendedValue octets present flagged reserved sampleOffset codecData configControls payloadConfig payloadAfter payloads padding containerEnd container consumed reading payloadsOf classOf classify withAt withPayloads cleared change placeExists inRoom stepTo step stepAnswer written stepFrom edited
+unfolding bitAt bitsValue numberBits bitLength bitsRemaining readBits _⨟_ groupsBefore variableField countBefore groups escape extendedField extendedGroups octetBits flaggedField presentField _&_ iff isPresent isOne whenPresent upTo hasAligned hasPriority presentAsRuled writableConfig writablePayload writablePayloads protectionLength protectionCode codable writable extensionBits flaggedBits presentBits neededConfig neededPayload neededPayloads neededBits declared sampleOffsetBits codecDataBits configBits payloadBits payloadsBits protectionBits containerBits carrierBits bitsNumber bytesOf carrier andThen _>>=_ give ask choose position remaining fromBits bits groupsFrom variableBits extendedValue octets present flagged reserved sampleOffset codecData configControls payloadConfig payloadAfter payloads padding containerEnd container consumed reading payloadsOf classOf classify withAt withPayloads cleared change placeExists inRoom stepTo step stepAnswer written stepFrom edited
 starred = record {
   A-reads = refl;
   A-written = refl;
@@ -177,7 +177,7 @@ pub record Mistakes : Type 0 where
   pub not-strict : meetsProfile EtsiStrict unaligned (joined (Present 5)) ≡ false
 
 pub mistakes : Mistakes
-unfolding bitAt bitsValue numberBits bitLength bitsRemaining readBits _⨟_ groupsBefore variableField countBefore groups escape extendedField octetBits flaggedField presentField _&_ iff isPresent isOne whenPresent upTo hasAligned hasPriority presentAsRuled writableConfig writablePayload writablePayloads protectionLength protectionCode codable writable extensionBits flaggedBits presentBits neededConfig neededPayload neededPayloads neededBits declared sampleOffsetBits codecDataBits configBits payloadBits payloadsBits protectionBits containerBits carrierBits bitsNumber bytesOf carrier andThen _>>=_ give ask choose position remaining fromBits bits groupsFrom variableBits extendedValue octets present flagged reserved sampleOffset codecData configControls payloadConfig payloadAfter payloads padding containerEnd container consumed reading payloadsOf differ meets marks deviates table56 deviations word ones passes allows allPass meetsProfile
+unfolding bitAt bitsValue numberBits bitLength bitsRemaining readBits _⨟_ groupsBefore variableField countBefore groups escape extendedField extendedGroups octetBits flaggedField presentField _&_ iff isPresent isOne whenPresent upTo hasAligned hasPriority presentAsRuled writableConfig writablePayload writablePayloads protectionLength protectionCode codable writable extensionBits flaggedBits presentBits neededConfig neededPayload neededPayloads neededBits declared sampleOffsetBits codecDataBits configBits payloadBits payloadsBits protectionBits containerBits carrierBits bitsNumber bytesOf carrier andThen _>>=_ give ask choose position remaining fromBits bits groupsFrom variableBits extendedValue octets present flagged reserved sampleOffset codecData configControls payloadConfig payloadAfter payloads padding containerEnd container consumed reading payloadsOf differ meets marks deviates table56 deviations word ones passes allows allPass meetsProfile
 mistakes = record {
   padding-length-first = refl;
   both-codes-first = refl;

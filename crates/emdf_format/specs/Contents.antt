@@ -8,7 +8,7 @@ use Rattle.openjoc_bitio.specs.Choice.{if_then_else_}
 use Rattle.openjoc_bitio.specs.Bits.{numberBits}
 use Rattle.emdf_format.specs.Types.{Optional, EmdfPayloadConfig}
 use Rattle.emdf_format.specs.declared.Optional.the-variants.{Absent, Present}
-use Rattle.emdf_format.specs.Syntax.{syncword, _⨟_, variableField, groups, escape, extendedField, octetBits, flaggedField, presentField}
+use Rattle.emdf_format.specs.Syntax.{syncword, _⨟_, variableField, groups, extendedField, extendedGroups, octetBits, flaggedField, presentField}
 
 -- ---- contents: the scope, 'Contents and edits'
 
@@ -113,7 +113,7 @@ writable c =
 
 -- the variable field after an escape
 unfoldable pub extensionBits : ℕ → ℕ → ℕ
-extensionBits w v = if ltb v (escape w) then 0 else (w + 1) * groups w (v - escape w)
+extensionBits w v = (w + 1) * extendedGroups w v
 
 unfoldable pub flaggedBits : (ℕ → ℕ) → Optional → ℕ
 flaggedBits field Absent = 1

@@ -1,6 +1,7 @@
 pub mod Types
 pub mod Syntax
 pub mod Contents
+pub mod Groups
 pub mod Reader
 pub mod Reading
 pub mod Refusals

@@ -17,7 +17,8 @@ use Rattle.emdf_format.specs.declared.JocValidationStatus.the-variants.{
 use Rattle.emdf_format.specs.declared.JocProfileError.the-variants.{Emdf, PayloadCount, Configuration}
 use Rattle.emdf_format.specs.declared.JocProfileAnswer.the-variants.{Accepted, Refused}
 use Rattle.emdf_format.specs.Contents.{_&_, isPresent}
-use Rattle.emdf_format.specs.Reading.{Found, Reading, accepted, refusal, reading}
+use Rattle.emdf_format.specs.Reading.{Found, Reading, accepted, refusal, reading, contentsOf}
+use Rattle.emdf_format.specs.Groups.{largestGroups}
 
 -- ---- table 56, and the sample offset and frame alignment that the original takes it to imply
 
@@ -124,22 +125,23 @@ onlyId id xs = if eqb (countId id xs) 1 then firstId id 0 xs else none
 unfoldable pub status : ℕ → JocValidationStatus
 status n = if eqb n 0 then NormativeCompliant else AcceptedWithDeviation
 
-unfoldable pub judge : JocValidationProfile → PlacedConfig → PlacedConfig → JocProfileAnswer
-judge profile o j =
+-- most is the largest number of groups in the container
+unfoldable pub judge : JocValidationProfile → ℕ → PlacedConfig → PlacedConfig → JocProfileAnswer
+judge profile most o j =
     let ds : List Bool = deviations (o .config) (j .config) in
     if meetsProfile profile (o .config) (j .config)
-    then Accepted (record { oamd = o .place; joc = j .place; deviations = word ds; status = status (ones ds) })
+    then Accepted (record { oamd = o .place; joc = j .place; deviations = word ds; status = status (ones ds); «largest_groups» = most })
     else Refused (Configuration (word ds) (ones ds))
 
 -- 14 where one of them is missing or repeated
-unfoldable pub judged : JocValidationProfile → Option PlacedConfig → Option PlacedConfig → JocProfileAnswer → JocProfileAnswer
-judged profile (some o) (some j) otherwise = judge profile o j
-judged profile none j otherwise = otherwise
-judged profile (some o) none otherwise = otherwise
+unfoldable pub judged : JocValidationProfile → ℕ → Option PlacedConfig → Option PlacedConfig → JocProfileAnswer → JocProfileAnswer
+judged profile most (some o) (some j) otherwise = judge profile most o j
+judged profile most none j otherwise = otherwise
+judged profile most (some o) none otherwise = otherwise
 
 unfoldable pub verdictOn : JocValidationProfile → Reading → JocProfileAnswer
 verdictOn profile (accepted n c) =
-    judged profile (onlyId 11 (c .found)) (onlyId 14 (c .found))
+    judged profile (largestGroups (contentsOf c)) (onlyId 11 (c .found)) (onlyId 14 (c .found))
     (Refused (PayloadCount (countId 11 (c .found)) (countId 14 (c .found))))
 verdictOn profile (refusal why) = Refused (Emdf why)
 

@@ -54,6 +54,10 @@ escape w = 2 ^ w - 1
 unfoldable pub extendedField : ℕ → ℕ → List ℕ
 extendedField w v = if ltb v (escape w) then numberBits w v else numberBits w (escape w) ⨟ variableField w (v - escape w)
 
+-- how many groups follow the escape; below it there is no variable field
+unfoldable pub extendedGroups : ℕ → ℕ → ℕ
+extendedGroups w v = if ltb v (escape w) then 0 else groups w (v - escape w)
+
 -- ---- octets, and fields that may be absent
 
 unfoldable pub octetBits : List ℕ → List ℕ

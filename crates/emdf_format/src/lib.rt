@@ -187,12 +187,14 @@ pub enum JocProfileError {
     Configuration { deviations: u32, count: u32 },
 }
 
-// A carrier that a profile accepts: the places of its two payloads, and the marks.
+// A carrier that a profile accepts: the places of its two payloads, the marks, and the largest number of groups of a variable
+// field.
 pub struct ValidatedJocProfile {
     pub oamd: usize,
     pub joc: usize,
     pub deviations: u32,
     pub status: JocValidationStatus,
+    pub largest_groups: usize,
 }
 
 pub enum JocProfileAnswer {

@@ -6,7 +6,7 @@ ghost use Rattle.emdf_format.specs.Edits.{bodyEdit, settingsEdit, dropEdit, ins
 ghost use Rattle.openjoc_emdf.specs.Answers.{classAnswer};
 ghost use Rattle.emdf_answers.specs.Form.{version};
 ghost use Rattle.emdf_answers.specs.Bits.{BitReplies, newReply, remainingReply, readBitsReply, readBitReply, takeBitsReply, byteAlignReply};
-ghost use Rattle.emdf_answers.specs.Fields.{variableBitsReply};
+ghost use Rattle.emdf_answers.specs.Fields.{FieldReplies, variableBitsReply};
 ghost use Rattle.emdf_answers.specs.Replies.{twoReply, Replies};
 ghost use Rattle.emdf_answers.specs.Carriers.{readInto, ReadReplies, classReply, MoveReplies};
 ghost use Rattle.emdf_answers.specs.Verdict.{profileOf, verdictReply};
@@ -23,7 +23,7 @@ use openjoc_emdf::OpenAnswer;
 pub extern "C" fn emdf_version() -> u32
     ensures { λ r. ⌜ r ≡ version ⌝ }
 {
-    3
+    4
 }
 
 #[no_mangle]
@@ -113,7 +113,7 @@ pub extern "C" fn emdf_byte_align(
     )
 }
 
-// A variable field, with the cursor after it, also where it is refused.
+// A variable field and its groups, with the cursor after it, also where it is refused.
 #[no_mangle]
 pub extern "C" fn emdf_variable_bits(
     bytes: &[u8],
@@ -121,12 +121,12 @@ pub extern "C" fn emdf_variable_bits(
     end: usize,
     width: u8,
     limit: u8,
-    answer: &mut [u8; 48],
+    answer: &mut [u8; 56],
 ) -> u32
-    ensures { λ r. ⌜ BitReplies (variableBitsReply (now (bytes .entry)) position end width limit) r (now (answer .exit)) ⌝ }
+    ensures { λ r. ⌜ FieldReplies (variableBitsReply (now (bytes .entry)) position end width limit) r (now (answer .exit)) ⌝ }
 {
     let cursor = BitCursor { position, end };
-    emdf_rows::put_reply(
+    emdf_rows::put_field(
         answer,
         emdf_answers::field_reply(emdf_fields::variable_bits(bytes, cursor, width, limit)),
     )
@@ -134,7 +134,7 @@ pub extern "C" fn emdf_variable_bits(
 
 // What a range of bytes is.
 #[no_mangle]
-pub extern "C" fn emdf_classify(bytes: &[u8], answer: &mut [u8; 80]) -> u32
+pub extern "C" fn emdf_classify(bytes: &[u8], answer: &mut [u8; 88]) -> u32
     ensures { λ r. ⌜ Replies (classReply (classAnswer (classify (now (bytes .entry))))) r (now (answer .exit)) ⌝ }
 {
     let class = openjoc_emdf::classify_emdf_carrier(bytes);
@@ -145,7 +145,7 @@ pub extern "C" fn emdf_classify(bytes: &[u8], answer: &mut [u8; 80]) -> u32
 
 // Reads the carrier; a row of 216 bytes a payload goes into the table.
 #[no_mangle]
-pub extern "C" fn emdf_read(bytes: &[u8], table: &mut [u8], answer: &mut [u8; 72]) -> u32
+pub extern "C" fn emdf_read(bytes: &[u8], table: &mut [u8], answer: &mut [u8; 80]) -> u32
     ensures { λ r. ⌜ ReadReplies (readInto (now (bytes .entry)) (now (table .entry))) r (now (answer .exit)) (now (table .entry)) (now (table .exit)) ⌝ }
 {
     let a = openjoc_emdf::open_carrier(bytes);
@@ -160,7 +160,7 @@ pub extern "C" fn emdf_read(bytes: &[u8], table: &mut [u8], answer: &mut [u8; 72
             }
             let n = parsed.bytes_consumed.0;
             emdf_rows::put_rows(table, &bytes[..n], first, count);
-            emdf_rows::put_nine(answer, 0, emdf_answers::parsed_words(parsed))
+            emdf_rows::put_reading(answer, 0, emdf_answers::parsed_words(parsed))
         }
         OpenAnswer::Refused(why) => emdf_rows::put_refusal(answer, RecordsError::Emdf(why)),
     }
@@ -182,7 +182,7 @@ pub extern "C" fn emdf_move_body(
 
 // The verdict on the carrier: profile 0 is strict, any other number compat.
 #[no_mangle]
-pub extern "C" fn emdf_verdict(bytes: &[u8], profile: u32, answer: &mut [u8; 32]) -> u32
+pub extern "C" fn emdf_verdict(bytes: &[u8], profile: u32, answer: &mut [u8; 40]) -> u32
     ensures { λ r. ⌜ Replies (verdictReply (verdict (profileOf profile) (now (bytes .entry)))) r (now (answer .exit)) ⌝ }
 {
     let judged = joc_profile::validate_joc_profile_for(bytes, emdf_answers::profile_of(profile));

@@ -8,7 +8,7 @@ use lib.Pow.{pow-mono}
 use lib.Pow.{shr-le}
 use lib.Dec.{ltb}
 use Rattle.openjoc_bitio.specs.Choice.{if_then_else_}
-use Rattle.emdf_format.specs.Syntax.{capacity, countBefore, groups, escape}
+use Rattle.emdf_format.specs.Syntax.{capacity, countBefore, groups, escape, extendedGroups}
 use Rattle.emdf_format.specs.Contents.{_&_, iff, presentAsRuled, extensionBits}
 use Rattle.emdf_format.specs.declared.Optional.{Optional}
 use Rattle.emdf_format.proofs.Variable.{groups-least}
@@ -78,10 +78,14 @@ bits-few w g h l =
     let a : w + 1 ≤ 12 = omega arith in
     omega (arith, mul-le-mul-right g a)
 
+pub extended-few : (w v : ℕ) → 0 < w → v < 2 ^ 64 → extendedGroups w v ≤ 64
+unfolding extendedGroups
+extended-few w v h l = go (ltb v (escape w))
+  where
+    go : (t : Bool) → (if t then 0 else groups w (v - escape w)) ≤ 64
+    go true = omega arith
+    go false = groups-few w (v - escape w) h (omega arith)
+
 pub extension-few : (w v : ℕ) → 0 < w → w < 12 → v < 2 ^ 64 → extensionBits w v ≤ 768
 unfolding extensionBits
-extension-few w v h k l = go (ltb v (escape w))
-  where
-    go : (t : Bool) → (if t then 0 else (w + 1) * groups w (v - escape w)) ≤ 768
-    go true = omega arith
-    go false = bits-few w _ k (groups-few w (v - escape w) h (omega arith))
+extension-few w v h k l = bits-few w _ k (extended-few w v h l)

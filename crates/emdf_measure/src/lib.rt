@@ -1,8 +1,9 @@
-// What an edit asks of contents: whether they are writable, and how many bits they are written as.
+// What is asked of contents: whether they are writable, how many bits they are written as, and how many groups.
 ghost use mathlib.Core.Path.{_≡_};
 ghost use Prim.Native.Nat.{_+_, _*_, _≤_, _<_};
 ghost use lib.Dec.{leb};
-ghost use Rattle.emdf_format.specs.Syntax.{groups};
+ghost use Rattle.emdf_format.specs.Syntax.{groups, escape as ones, extendedGroups};
+ghost use Rattle.emdf_format.specs.Groups.{larger as largerOf, optionalGroups};
 ghost use Rattle.emdf_format.specs.Contents.{whenPresent, upTo, presentAsRuled, writableConfig, protectionCode, codable, extensionBits, flaggedBits, presentBits, neededConfig};
 ghost use Rattle.emdf_measure.specs.Parts.{writableControls, controlBits, writableProtection};
 use emdf_format::EmdfPayloadConfig;
@@ -102,24 +103,45 @@ fn group_count(width: usize, v: u64) -> usize
     n
 }
 
+// The same, of a field with an escape: of the variable field after it. The escape is all ones.
+pub fn extended_groups(width: usize, escape: u64, v: u64) -> usize
+    requires { ⌜ (0 < width) × (width < 64) × (escape ≡ ones width) ⌝ }
+    ensures { λ r. ⌜ r ≡ extendedGroups width v ⌝ }
+{
+    if v < escape {
+        return 0;
+    }
+    group_count(width, v - escape)
+}
+
+pub fn optional_groups(width: usize, o: Optional) -> usize
+    requires { ⌜ (0 < width) × (width < 64) ⌝ }
+    ensures { λ r. ⌜ r ≡ optionalGroups width o ⌝ }
+{
+    match o {
+        Optional::Absent => 0,
+        Optional::Present(v) => group_count(width, v),
+    }
+}
+
+pub fn larger(a: usize, b: usize) -> usize
+    ensures { λ r. ⌜ r ≡ largerOf a b ⌝ }
+{
+    if a < b { b } else { a }
+}
+
 // The bits of an id of a payload, with its extension.
 pub fn id_bits(id: u64) -> usize
     ensures { λ r. ⌜ r ≡ 5 + extensionBits 5 id ⌝ }
 {
-    if id < 31 {
-        return 5;
-    }
-    5 + 6 * group_count(5, id - 31)
+    5 + 6 * extended_groups(5, 31, id)
 }
 
 // The bits of version 0 and a key id, with its extension.
 pub fn key_bits(key: u64) -> usize
     ensures { λ r. ⌜ r ≡ 5 + extensionBits 3 key ⌝ }
 {
-    if key < 7 {
-        return 5;
-    }
-    5 + 4 * group_count(3, key - 7)
+    5 + 4 * extended_groups(3, 7, key)
 }
 
 // The bits of the size of a body.

@@ -8,18 +8,20 @@ use lib.ListN.{length}
 use Rattle.openjoc_bitio.specs.Cursor.{bitsRemaining}
 use Rattle.openjoc_bitio.specs.declared.BitCursor.{BitCursor}
 use Rattle.emdf_format.specs.Reader.{Read, got, refused, Reader, andThen, _>>=_, give, cursorAt}
-use Rattle.emdf_format.specs.Reading.{Found as Payload, payloads}
+use Rattle.emdf_format.specs.Syntax.{extendedField}
+use Rattle.emdf_format.specs.Reading.{Found as Payload, payloads, payloadOf, payloadsOf}
+use Rattle.emdf_format.specs.Groups.{larger, payloadGroups, payloadsGroups}
 use Rattle.emdf_format.specs.declared.EmdfError.{EmdfError}
 use Rattle.emdf_format.specs.declared.PayloadRecord.{PayloadRecord}
-use Rattle.emdf_format.proofs.Standing.{bitLimit, remaining-limit, taken, chosen, bind-inv, bind-go, bind-no, bind-assoc, bind-same, choose-inv, choose-bind, choose-same, give-inv, give-bind, stands-in}
-use Rattle.emdf_format.proofs.Payloads.{at-inv, id-law}
+use Rattle.emdf_format.proofs.Standing.{Stands, bitLimit, remaining-limit, taken, chosen, bind-inv, bind-go, bind-no, bind-assoc, bind-same, choose-inv, choose-bind, choose-same, give-inv, give-bind, stands-in}
+use Rattle.emdf_format.proofs.Payloads.{at-inv, id-law, after-sound}
+use Rattle.emdf_format.proofs.Groups.{size-groups, larger-left, larger-zero, larger-assoc}
 use Rattle.emdf_format.proofs.Lengths.{length-extended}
 use Rattle.emdf_format.proofs.Loops.{payloads-enough, after-moves, id-moves}
-use Rattle.emdf_fields.specs.Fields.{countAnswer}
-use Rattle.emdf_payloads.specs.Payloads.{NextPayload, ended, found, nextPayload, nextStep, nextAnswer}
+use Rattle.emdf_payloads.specs.Payloads.{NextPayload, ended, found, nextPayload, nextStep, nextAnswer, recordGroups, listAnswer}
 use Rattle.emdf_payloads.specs.declared.PayloadStep.the-variants as PayloadStep
-use Rattle.emdf_fields.specs.declared.CountAnswer.{CountAnswer}
-use Rattle.emdf_fields.specs.declared.CountAnswer.the-variants as CountAnswer
+use Rattle.emdf_payloads.specs.declared.ListAnswer.{ListAnswer}
+use Rattle.emdf_payloads.specs.declared.ListAnswer.the-variants as ListAnswer
 use Rattle.emdf_fields.proofs.Answers.{Found}
 
 -- ---- what a turn's answer says
@@ -62,6 +64,21 @@ moves s e p q x h =
     let l : p₁ ≤ bitLimit s e = stands-in (id-law .sound h₁ .0) (omega (arith, length-extended 5 id)) in
     (omega (arith, z .to, d .to), omega (arith, z .to))
 
+-- its record says how many groups it has
+record-groups : (s : List ℕ) (e p q : ℕ) (x : Payload) → nextPayload s e p ≡ got (found x) q → recordGroups (x .record-of) ≡ payloadGroups (payloadOf x)
+unfolding nextPayload recordGroups payloadGroups
+record-groups s e p q x h =
+    taken (bind-inv h) λ p₀ q₀ h₀ t₀.
+    let z = at-inv h₀ in
+    taken (bind-inv t₀) λ id p₁ h₁ t₁.
+    chosen (choose-inv t₁)
+    (λ y t₂. let d = give-inv t₂ in absurd (let w : _≡_ {A = ℕ} 0 1 = cc (d .what) in omega arith))
+    λ y t₂.
+    taken (bind-inv t₂) λ x′ p₂ h₂ t₃.
+    let a : x′ ≡ x = cc (give-inv t₃ .what) in
+    let i : Stands s e p₀ p₁ (extendedField 5 id) = rw (← z .is, z .to) (id-law .sound h₁ .0) in
+    rw (size-groups ((rw a at (after-sound p₀ id h₂)) .spans i))
+
 -- ---- the list is a turn, and then what it says
 
 unfoldable pub rest : ℕ → NextPayload → Reader (List Payload)
@@ -80,29 +97,31 @@ payloads-turn n s e p =
     bind-assoc _ _ (rest n) s e q
     ∙ bind-same _ _ _ s e q (λ x q. give-bind (found x) (rest n) s e q)))))
 
--- how many payloads there are, k of them counted already
-unfoldable pub countFrom : ℕ → ℕ → Read (List Payload) → CountAnswer
-countFrom k e (got xs q) = CountAnswer.Counted (k + length xs) (cursorAt e q)
-countFrom k e (refused why q) = CountAnswer.Refused why
+-- how many payloads there are and their largest groups, k of them counted already, with most
+unfoldable pub countFrom : ℕ → ℕ → ℕ → Read (List Payload) → ListAnswer
+countFrom k most e (got xs q) = ListAnswer.List (k + length xs) (larger most (payloadsGroups (payloadsOf xs))) (cursorAt e q)
+countFrom k most e (refused why q) = ListAnswer.Refused why
 
-pub count-all : (e : ℕ) (y : Read (List Payload)) → countFrom 0 e y ≡ countAnswer e y
-unfolding countFrom countAnswer
-count-all e (got xs q) = let z : 0 + length xs ≡ length xs = omega arith in rw z
+pub count-all : (e : ℕ) (y : Read (List Payload)) → countFrom 0 0 e y ≡ listAnswer e y
+unfolding countFrom listAnswer
+count-all e (got xs q) = let z : 0 + length xs ≡ length xs = omega arith in rw (z, larger-zero)
 count-all e (refused why q) = refl
 
-counted-more : (k e : ℕ) (x : Payload) (y : Read (List Payload)) → countFrom (k + 1) e y ≡ countFrom k e (andThen y (λ xs q. got (x ∷ xs) q))
-unfolding countFrom andThen
-counted-more k e x (got xs q) = let z : k + 1 + length xs ≡ k + suc (length xs) = omega arith in rw z
-counted-more k e x (refused why q) = refl
+counted-more : (k most e : ℕ) (x : Payload) (y : Read (List Payload)) → countFrom (k + 1) (larger most (payloadGroups (payloadOf x))) e y ≡ countFrom k most e (andThen y (λ xs q. got (x ∷ xs) q))
+unfolding countFrom andThen payloadsOf payloadsGroups
+counted-more k most e x (got xs q) =
+    let z : k + 1 + length xs ≡ k + suc (length xs) = omega arith in
+    rw (z, larger-assoc most (payloadGroups (payloadOf x)) (payloadsGroups (payloadsOf xs)))
+counted-more k most e x (refused why q) = refl
 
-counted-rest : (k : ℕ) (s : List ℕ) (n m e : ℕ) (c : BitCursor) (x : Payload) → c .end ≡ e → bitLimit s (c .end) - c .position ≤ n → bitLimit s e - c .position ≤ m
-    → countFrom (k + 1) (c .end) (payloads n s (c .end) (c .position)) ≡ countFrom k e (rest m (found x) s e (c .position))
+counted-rest : (k most : ℕ) (s : List ℕ) (n m e : ℕ) (c : BitCursor) (x : Payload) → c .end ≡ e → bitLimit s (c .end) - c .position ≤ n → bitLimit s e - c .position ≤ m
+    → countFrom (k + 1) (larger most (payloadGroups (payloadOf x))) (c .end) (payloads n s (c .end) (c .position)) ≡ countFrom k most e (rest m (found x) s e (c .position))
 unfolding rest _>>=_ give
-counted-rest k s n m e c x h a b =
+counted-rest k most s n m e c x h a b =
     let a′ : bitLimit s e - c .position ≤ n = rw h at a in
-    rw (h, payloads-enough n m s e (c .position) a′ b) (counted-more k e x (payloads m s e (c .position)))
+    rw (h, payloads-enough n m s e (c .position) a′ b) (counted-more k most e x (payloads m s e (c .position)))
 
-module _ (k : ℕ) (s : List ℕ) (at : BitCursor) where
+module _ (k most : ℕ) (s : List ℕ) (at : BitCursor) where
   abbrev e : ℕ
   e = at .end
 
@@ -110,39 +129,40 @@ module _ (k : ℕ) (s : List ℕ) (at : BitCursor) where
   p = at .position
 
   -- all that is left to count
-  abbrev pub left : CountAnswer
-  left = countFrom k e (payloads (bitsRemaining s at) s e p)
+  abbrev pub left : ListAnswer
+  left = countFrom k most e (payloads (bitsRemaining s at) s e p)
 
   enough : payloads (bitsRemaining s at) s e p ≡ (nextPayload >>= rest (bitsRemaining s at)) s e p
   enough =
       let l : bitLimit s e - p ≤ bitsRemaining s at = omega (arith, remaining-limit s e p) in
       payloads-enough (bitsRemaining s at) (suc (bitsRemaining s at)) s e p l (omega arith) ∙ payloads-turn (bitsRemaining s at) s e p
 
-  pub at-end : {c : BitCursor} → nextAnswer e (nextPayload s e p) ≡ PayloadStep.End c → CountAnswer.Counted k c ≡ left
-  unfolding countFrom rest give
+  pub at-end : {c : BitCursor} → nextAnswer e (nextPayload s e p) ≡ PayloadStep.End c → ListAnswer.List k most c ≡ left
+  unfolding countFrom rest give payloadsOf payloadsGroups
   at-end h =
       let d = ended-is (nextPayload s e p) h in
-      rw (enough, bind-go nextPayload (rest (bitsRemaining s at)) (d .is) refl, add-zero, ← d .end)
+      rw (enough, bind-go nextPayload (rest (bitsRemaining s at)) (d .is) refl, add-zero, larger-left most 0 (omega arith), ← d .end)
 
-  pub at-refused : {why : EmdfError} → nextAnswer e (nextPayload s e p) ≡ PayloadStep.Refused why → CountAnswer.Refused why ≡ left
+  pub at-refused : {why : EmdfError} → nextAnswer e (nextPayload s e p) ≡ PayloadStep.Refused why → ListAnswer.Refused why ≡ left
   unfolding countFrom
   at-refused h = let d = refused-is e (nextPayload s e p) h in rw (enough, bind-no nextPayload (rest (bitsRemaining s at)) (d .1))
 
-  pub record More (c : BitCursor) : Type 0 where
-    pub left : countFrom (k + 1) (c .end) (payloads (bitsRemaining s c) s (c .end) (c .position)) ≡ left
+  pub record More (r : PayloadRecord) (c : BitCursor) : Type 0 where
+    pub left : countFrom (k + 1) (larger most (recordGroups r)) (c .end) (payloads (bitsRemaining s c) s (c .end) (c .position)) ≡ left
     pub moves : p < c .position
     pub less : bitsRemaining s c < bitsRemaining s at
 
-  pub at-payload : {r : PayloadRecord} {c : BitCursor} → nextAnswer e (nextPayload s e p) ≡ PayloadStep.Payload r c → More c
+  pub at-payload : {r : PayloadRecord} {c : BitCursor} → nextAnswer e (nextPayload s e p) ≡ PayloadStep.Payload r c → More r c
   unfolding rest
   at-payload {r} {c} h =
       let (x, i, d) = found-is e (nextPayload s e p) h in
       let m = moves s e p (c .position) x (d .is) in
+      let g : recordGroups r ≡ payloadGroups (payloadOf x) = ap recordGroups (sym i) ∙ record-groups s e p (c .position) x (d .is) in
       let a : bitsRemaining s at ≡ bitLimit s e - p = remaining-limit s e p in
       let b : bitsRemaining s c ≡ bitLimit s (c .end) - c .position = remaining-limit s (c .end) (c .position) in
       let b′ : bitsRemaining s c ≡ bitLimit s e - c .position = b ∙ ap (λ (x : ℕ). bitLimit s x - c .position) (d .end) in
       record {
-        left = rw (enough, bind-go nextPayload (rest (bitsRemaining s at)) (d .is) refl) (counted-rest k s (bitsRemaining s c) (bitsRemaining s at) e c x (d .end) (omega (arith, b)) (omega (arith, b′, a, m)));
+        left = rw (g, enough, bind-go nextPayload (rest (bitsRemaining s at)) (d .is) refl) (counted-rest k most s (bitsRemaining s c) (bitsRemaining s at) e c x (d .end) (omega (arith, b)) (omega (arith, b′, a, m)));
         moves = m .0;
         less = omega (arith, m);
       }

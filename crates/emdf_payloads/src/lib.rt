@@ -1,14 +1,13 @@
 // Payloads one after another. Each function answers what its definition in emdf_format says; a compact payload is read from words.
 ghost use mathlib.Core.Path.{_≡_};
 ghost use mathlib.Core.Bool.{true};
-ghost use Prim.Native.Nat.{_+_, _^_, _<_};
+ghost use Prim.Native.Nat.{_+_, _-_, _^_, _<_};
 ghost use Rattle.emdf_format.specs.Reading.{traceOf, payloadAfter, payloads};
 ghost use Rattle.openjoc_bitio.specs.Bits.{windowAt};
 ghost use Rattle.emdf_compact.specs.Words.{compactSettings, configLength};
 ghost use Rattle.openjoc_bitio.specs.Cursor.{bitsRemaining};
-ghost use Rattle.emdf_fields.specs.Fields.{countAnswer};
-ghost use Rattle.emdf_payloads.specs.Compact.{CompactAt, compactParts, notCompact, compactRecord};
-ghost use Rattle.emdf_payloads.specs.Payloads.{payloadAnswer, skipOf, stepAt};
+ghost use Rattle.emdf_payloads.specs.Compact.{CompactAt, SizeWord, compactParts, notCompact, compactRecord, compactGroups};
+ghost use Rattle.emdf_payloads.specs.Payloads.{payloadAnswer, skipOf, stepAt, recordGroups, countOf, listAnswer, listError};
 use emdf_fields::CountAnswer;
 use emdf_fields::FieldAnswer;
 use emdf_format::EmdfError;
@@ -33,7 +32,21 @@ pub enum SkipStep {
     Refused(EmdfError),
 }
 
-// The end mark or a compact payload: the word that holds its head, and how many bits its head, its size and all of it take.
+// How many payloads there are, the largest number of groups in them, and the cursor past the end mark.
+pub enum ListAnswer {
+    List(usize, usize, BitCursor),
+    Refused(EmdfError),
+}
+
+// A payload that is passed, with the larger of a number of groups and its own; or the end of the list.
+enum CountStep {
+    Past(usize, BitCursor),
+    End(BitCursor),
+    Refused(EmdfError),
+}
+
+// The end mark or a compact payload: the word that holds its head, how many bits its head takes, with emdf_compact's mark of a
+// group id of two groups, and how many its size and all of it.
 pub struct CompactPayload {
     pub word: u64,
     pub head: usize,
@@ -98,7 +111,7 @@ fn after_by_fields(s: &[u8], c: BitCursor, start: usize, id: u64) -> PayloadStep
     let ConfigAnswer::Config(config, c1) = a1 else {
         return PayloadStep::Refused(emdf_settings::config_error(a1));
     };
-    let a2 = emdf_fields::variable_bits(s, c1, 8, MAX_SIZE_GROUPS);
+    let a2 = emdf_fields::variable_field(s, c1, 8, MAX_SIZE_GROUPS);
     let FieldAnswer::Value(size, c2) = a2 else {
         return PayloadStep::Refused(emdf_fields::field_error(a2));
     };
@@ -200,7 +213,7 @@ fn compact_parts(s: &[u8], position: usize) -> CompactPayload
             length: head,
         };
     }
-    let y = openjoc_bitio::window_at(s, position + head);
+    let y = size_word(s, word, position, head % 128);
     let size = emdf_compact::size_length(y) as usize;
     if size == 0 {
         return not_compact();
@@ -209,8 +222,31 @@ fn compact_parts(s: &[u8], position: usize) -> CompactPayload
         word,
         head,
         size,
-        length: head + size + (emdf_compact::size_value(y) as usize) * 8,
+        length: head % 128 + size + (emdf_compact::size_value(y) as usize) * 8,
     }
+}
+
+// A word that starts with the size after a head of so many bits: the head's own, where it has 18 bits more.
+fn size_word(s: &[u8], word: u64, position: usize, head: usize) -> u64
+    requires { ⌜ (position < 2 ^ 61) × (head < 2 ^ 7) × (word ≡ windowAt (now s) position) ⌝ }
+    ensures { λ r. ⌜ SizeWord (now (s .entry)) (position + head) r ⌝ }
+{
+    if head < 40 {
+        return word << head;
+    }
+    openjoc_bitio::window_at(s, position + head)
+}
+
+// The largest number of groups in a compact payload: its size's, or its settings', which are one, and one more where the head
+// is marked.
+fn compact_groups(head: usize, size: usize) -> usize
+    requires { ⌜ head < 2 ^ 8 ⌝ }
+    ensures { λ r. ⌜ r ≡ compactGroups head size ⌝ }
+{
+    if size == 18 {
+        return 2;
+    }
+    1 + head / 128
 }
 
 fn not_compact() -> CompactPayload
@@ -226,10 +262,10 @@ fn not_compact() -> CompactPayload
 
 // What is recorded of a compact payload at a position.
 pub fn compact_record(c: CompactPayload, position: usize) -> PayloadRecord
-    requires { ⌜ (c .head < 2 ^ 7) × (c .size < 2 ^ 7) × (position < 2 ^ 61) × (position + c .length < 2 ^ 64) ⌝ }
+    requires { ⌜ (c .head < 2 ^ 8) × (c .size < 2 ^ 7) × (position < 2 ^ 61) × (position + c .length < 2 ^ 64) ⌝ }
     ensures { λ r. ⌜ r ≡ compactRecord c position ⌝ }
 {
-    let size = position + c.head;
+    let size = position + c.head % 128;
     PayloadRecord {
         id: c.word >> 59,
         config: emdf_compact::compact_config(c.word << 5),
@@ -268,24 +304,98 @@ fn skipped(step: PayloadStep) -> SkipStep
     }
 }
 
+// The largest number of groups in a payload.
+fn record_groups(payload: PayloadRecord) -> usize
+    ensures { λ r. ⌜ r ≡ recordGroups payload ⌝ }
+{
+    let config = payload.config;
+    let duration = config.duration;
+    let group = config.group_id;
+    let trace = payload.trace;
+    let start = trace.payload_size_start_bit;
+    let end = trace.payload_size_end_bit;
+    let settings = emdf_measure::larger(
+        emdf_measure::optional_groups(11, duration),
+        emdf_measure::optional_groups(2, group),
+    );
+    let id = emdf_measure::extended_groups(5, 31, payload.id);
+    emdf_measure::larger(
+        emdf_measure::larger(id, settings),
+        bits_between(start.0, end.0) / 9,
+    )
+}
+
+fn bits_between(start: usize, end: usize) -> usize
+    ensures { λ r. ⌜ r ≡ end - start ⌝ }
+{
+    if end < start {
+        return 0;
+    }
+    end - start
+}
+
+fn counted(step: PayloadStep, most: usize) -> CountStep
+    ensures { λ r. ⌜ r ≡ countOf most step ⌝ }
+{
+    match step {
+        PayloadStep::Payload(record, next) => {
+            CountStep::Past(emdf_measure::larger(most, record_groups(record)), next)
+        }
+        PayloadStep::End(next) => CountStep::End(next),
+        PayloadStep::Refused(why) => CountStep::Refused(why),
+    }
+}
+
+// Past the next payload, with the larger of a number of groups and its own.
+fn count_payload(s: &[u8], c: BitCursor, most: usize) -> CountStep
+    ensures { λ r. ⌜ r ≡ countOf most (stepAt (now (s .entry)) c) ⌝ }
+{
+    let position = c.position;
+    let end = c.end;
+    let found = compact_at(s, position, end);
+    if found.length == 0 {
+        return counted(payload_by_fields(s, BitCursor { position, end }), most);
+    }
+    let next = BitCursor {
+        position: position + found.length,
+        end,
+    };
+    if found.word >> 59 == 0 {
+        return CountStep::End(next);
+    }
+    let groups = compact_groups(found.head, found.size);
+    CountStep::Past(emdf_measure::larger(most, groups), next)
+}
+
+pub fn list_error(a: ListAnswer) -> EmdfError
+    ensures { λ r. ⌜ r ≡ listError a r ⌝ }
+{
+    match a {
+        ListAnswer::List(_, _, _) => EmdfError::ValueOverflow,
+        ListAnswer::Refused(why) => why,
+    }
+}
+
 // Reads all payloads, to the end of the list.
-pub fn count_payloads(s: &[u8], c: BitCursor) -> CountAnswer
-    ensures { λ r. ⌜ r ≡ countAnswer (c .end) (payloads (bitsRemaining (now (s .entry)) c) (now (s .entry)) (c .end) (c .position)) ⌝ }
+pub fn count_payloads(s: &[u8], c: BitCursor) -> ListAnswer
+    ensures { λ r. ⌜ r ≡ listAnswer (c .end) (payloads (bitsRemaining (now (s .entry)) c) (now (s .entry)) (c .end) (c .position)) ⌝ }
 {
     let mut count: usize = 0;
+    let mut groups: usize = 0;
     let mut at = c;
     loop {
-        let step = skip_payload(s, at);
+        let step = count_payload(s, at, groups);
         match step {
-            SkipStep::Past(_, next) => {
+            CountStep::Past(most, next) => {
                 count += 1;
+                groups = most;
                 at = next;
             }
-            SkipStep::End(next) => {
-                return CountAnswer::Counted(count, next);
+            CountStep::End(next) => {
+                return ListAnswer::List(count, groups, next);
             }
-            SkipStep::Refused(why) => {
-                return CountAnswer::Refused(why);
+            CountStep::Refused(why) => {
+                return ListAnswer::Refused(why);
             }
         }
     }

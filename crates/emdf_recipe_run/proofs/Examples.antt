@@ -4,7 +4,7 @@ use mathlib.Core.List.{List, [], _∷_, _++_}
 use Prim.Native.Nat.{ℕ}
 use Rattle.openjoc_bitio.specs.Bits.{bitAt, bitsValue, numberBits}
 use Rattle.openjoc_bitio.specs.Cursor.{bitLength, bitsRemaining, readBits}
-use Rattle.emdf_format.specs.Syntax.{_⨟_, groupsBefore, variableField, countBefore, groups, escape, extendedField, octetBits, flaggedField, presentField}
+use Rattle.emdf_format.specs.Syntax.{_⨟_, groupsBefore, variableField, countBefore, groups, escape, extendedField, extendedGroups, octetBits, flaggedField, presentField}
 use Rattle.emdf_format.specs.Contents.{_&_, iff, isPresent, isOne, whenPresent, upTo, hasAligned, hasPriority, presentAsRuled, writableConfig, writablePayload, writablePayloads, protectionLength, protectionCode, codable, writable, extensionBits, flaggedBits, presentBits, neededConfig, neededPayload, neededPayloads, neededBits, declared, sampleOffsetBits, codecDataBits, configBits, payloadBits, payloadsBits, protectionBits, containerBits, carrierBits, bitsNumber, bytesOf, carrier}
 use Rattle.emdf_format.specs.Reader.{andThen, _>>=_, give, ask, choose, position, remaining, fromBits, bits, groupsFrom, variableBits, extendedValue, octets, present, flagged}
 use Rattle.emdf_format.specs.Reading.{reserved, sampleOffset, codecData, configControls, payloadConfig, payloadAfter, payloads, padding, containerEnd, container, consumed, reading, payloadsOf}
@@ -32,5 +32,5 @@ eleven = 9 ∷ 9 ∷ 9 ∷ eight
 
 pub three-edits : runOf (edits (bodyEdit 0 [] ∷ dropEdit 1 ∷ dropEdit 0 ∷ [])) B eleven eight
     ≡ record { answer = record { holder = Second; length = record { 0 = 7 }; refused = 1 }; first = emptied ++ 9 ∷ []; second = dropped ++ 9 ∷ [] }
-unfolding bitAt bitsValue numberBits bitLength bitsRemaining readBits _⨟_ groupsBefore variableField countBefore groups escape extendedField octetBits flaggedField presentField _&_ iff isPresent isOne whenPresent upTo hasAligned hasPriority presentAsRuled writableConfig writablePayload writablePayloads protectionLength protectionCode codable writable extensionBits flaggedBits presentBits neededConfig neededPayload neededPayloads neededBits declared sampleOffsetBits codecDataBits configBits payloadBits payloadsBits protectionBits containerBits carrierBits bitsNumber bytesOf carrier andThen _>>=_ give ask choose position remaining fromBits bits groupsFrom variableBits extendedValue octets present flagged reserved sampleOffset codecData configControls payloadConfig payloadAfter payloads padding containerEnd container consumed reading payloadsOf withAt withPayloads cleared change placeExists inRoom stepTo step stepAnswer written stepFrom edited source target firstAfter secondAfter counted ranEdit ranEdits begunAnswer begun runOf
+unfolding bitAt bitsValue numberBits bitLength bitsRemaining readBits _⨟_ groupsBefore variableField countBefore groups escape extendedField extendedGroups octetBits flaggedField presentField _&_ iff isPresent isOne whenPresent upTo hasAligned hasPriority presentAsRuled writableConfig writablePayload writablePayloads protectionLength protectionCode codable writable extensionBits flaggedBits presentBits neededConfig neededPayload neededPayloads neededBits declared sampleOffsetBits codecDataBits configBits payloadBits payloadsBits protectionBits containerBits carrierBits bitsNumber bytesOf carrier andThen _>>=_ give ask choose position remaining fromBits bits groupsFrom variableBits extendedValue octets present flagged reserved sampleOffset codecData configControls payloadConfig payloadAfter payloads padding containerEnd container consumed reading payloadsOf withAt withPayloads cleared change placeExists inRoom stepTo step stepAnswer written stepFrom edited source target firstAfter secondAfter counted ranEdit ranEdits begunAnswer begun runOf
 three-edits = refl

@@ -11,7 +11,7 @@ pub(crate) fn outcome(bytes: &[u8], rest: &[u64]) -> Outcome {
         return Outcome::Bad;
     }
     let mut table = [0u8; TABLE];
-    let mut answer = [0u8; 72];
+    let mut answer = [0u8; 80];
     let number = emdf_host::emdf_read(bytes, &mut table, &mut answer);
     if (rest.len() - 10) / 27 != rows(rest[0], rest[3]) {
         return Outcome::Bad;
@@ -29,7 +29,7 @@ pub(crate) fn outcome(bytes: &[u8], rest: &[u64]) -> Outcome {
     }
 }
 
-fn same_answer(answer: &[u8; 72], values: &[u64]) -> bool {
+fn same_answer(answer: &[u8; 80], values: &[u64]) -> bool {
     words::same_words(answer, values)
 }
 

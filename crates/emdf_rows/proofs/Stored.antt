@@ -40,6 +40,10 @@ unfolding words
 words-stored l i v vs =
     ap (λ (n : ℕ). sets (sets l i (bigEndian 8 v)) (i + n) (words vs)) (sym (length-big-endian 8 v)) ∙ sym (sets-append l i (bigEndian 8 v) (words vs))
 
+pub words-one : (v : ℕ) → words (v ∷ []) ≡ bigEndian 8 v
+unfolding words
+words-one v = append-nil (bigEndian 8 v)
+
 words-append : (xs ys : List ℕ) → words (xs ++ ys) ≡ words xs ++ words ys
 unfolding words
 words-append [] ys = refl

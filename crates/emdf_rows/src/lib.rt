@@ -8,12 +8,14 @@ ghost use Rattle.emdf_format.specs.Reading.{Found};
 ghost use Rattle.emdf_format.specs.Calls.{recordsOf, unrecorded};
 ghost use Rattle.emdf_payloads.specs.Payloads.{Listed};
 ghost use Rattle.emdf_answers.specs.Form.{bigEndian, words};
-ghost use Rattle.emdf_answers.specs.Bits.{BitReplies};
+ghost use Rattle.emdf_answers.specs.Bits.{replyWords, BitReplies};
+ghost use Rattle.emdf_answers.specs.Fields.{FieldReplies};
 ghost use Rattle.emdf_answers.specs.Replies.{twoReply, Replies};
 ghost use Rattle.emdf_answers.specs.Carriers.{readReply, recordWords, rowsBytes, moveFigures};
 ghost use Rattle.emdf_answers.specs.Edits.{editedFigures};
 ghost use Rattle.emdf_rows.specs.Rows.{PutsRow};
 use emdf_answers::BitReply;
+use emdf_answers::FieldReply;
 use emdf_format::BodyAnswer;
 use emdf_format::EditAnswer;
 use emdf_format::Figures;
@@ -28,26 +30,43 @@ pub const ROW_BYTES: usize = 216;
 pub fn put_reply(answer: &mut [u8; 48], reply: BitReply) -> u32
     ensures { λ r. ⌜ BitReplies reply r (now (answer .exit)) ⌝ }
 {
-    let values = [
+    let values = reply_words(reply);
+    put_words(answer, 0, &values);
+    reply.number
+}
+
+// The groups stand last.
+pub fn put_field(answer: &mut [u8; 56], field: FieldReply) -> u32
+    ensures { λ r. ⌜ FieldReplies field r (now (answer .exit)) ⌝ }
+{
+    let reply = field.reply;
+    let values = reply_words(reply);
+    put_words(answer, 0, &values);
+    put_word(answer, 48, field.groups);
+    reply.number
+}
+
+fn reply_words(reply: BitReply) -> [u64; 6]
+    ensures { λ r. ⌜ r ≡ replyWords reply ⌝ }
+{
+    [
         reply.first,
         reply.second,
         reply.cursor.position as u64,
         reply.cursor.end as u64,
         reply.window.position as u64,
         reply.window.end as u64,
-    ];
-    put_words(answer, 0, &values);
-    reply.number
+    ]
 }
 
-pub fn put_refusal(answer: &mut [u8; 72], why: RecordsError) -> u32
+pub fn put_refusal(answer: &mut [u8; 80], why: RecordsError) -> u32
     ensures { λ r. ⌜ Replies (readReply (unrecorded why)) r (now (answer .exit)) ⌝ }
 {
     let f = emdf_refusals::figures_of(emdf_refusals::records_refusal(why));
-    put_nine(answer, f.number, emdf_answers::figure_words(f))
+    put_reading(answer, f.number, emdf_answers::figure_words(f))
 }
 
-pub fn put_nine(answer: &mut [u8; 72], number: u32, values: [u64; 9]) -> u32
+pub fn put_reading(answer: &mut [u8; 80], number: u32, values: [u64; 10]) -> u32
     ensures { λ r. ⌜ (r ≡ number) × (now (answer .exit) ≡ words values) ⌝ }
 {
     put_words(answer, 0, &values);

@@ -106,7 +106,7 @@ fn flagged_variable(s: &[u8], c: BitCursor, width: u8, limit: u8) -> OptionalAns
     if flag != 1 {
         return OptionalAnswer::Value(Optional::Absent, c1);
     }
-    let b = emdf_fields::variable_bits(s, c1, width, limit);
+    let b = emdf_fields::variable_field(s, c1, width, limit);
     let FieldAnswer::Value(value, c2) = b else {
         return OptionalAnswer::Refused(emdf_fields::field_error(b));
     };

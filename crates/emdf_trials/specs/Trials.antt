@@ -68,7 +68,7 @@ readerReply k s c n =
 
 unfoldable pub parseReply : ParseAnswer → Reply
 parseReply (ParseAnswer.Parsed p) = acceptedReply (parsedWords p)
-parseReply (ParseAnswer.Refused why) = refusedReply 9 (figuresOf (refusalOf why))
+parseReply (ParseAnswer.Refused why) = refusedReply 10 (figuresOf (refusalOf why))
 
 -- ---- a reading into records
 

@@ -122,13 +122,13 @@ fn align_step_reply(step: AlignStep) -> BitReply
 
 // parse_emdf_sync, with the answer of emdf_read.
 #[no_mangle]
-pub extern "C" fn trial_parse(bytes: &[u8], answer: &mut [u8; 72]) -> u32
+pub extern "C" fn trial_parse(bytes: &[u8], answer: &mut [u8; 80]) -> u32
     ensures { λ r. ⌜ Replies (parseReply (parseAnswer (reading (now (bytes .entry))))) r (now (answer .exit)) ⌝ }
 {
     let a = openjoc_emdf::parse_emdf_sync(bytes);
     match a {
         ParseAnswer::Parsed(parsed) => {
-            emdf_rows::put_nine(answer, 0, emdf_answers::parsed_words(parsed))
+            emdf_rows::put_reading(answer, 0, emdf_answers::parsed_words(parsed))
         }
         ParseAnswer::Refused(why) => emdf_rows::put_refusal(answer, RecordsError::Emdf(why)),
     }
@@ -137,7 +137,7 @@ pub extern "C" fn trial_parse(bytes: &[u8], answer: &mut [u8; 72]) -> u32
 // parse_emdf_sync_with_bit_trace, lent as many records as the table has rows, at most 512. All of them are written to the
 // table, those of payloads and those that have to be blank still.
 #[no_mangle]
-pub extern "C" fn trial_trace(bytes: &[u8], table: &mut [u8], answer: &mut [u8; 72]) -> u32
+pub extern "C" fn trial_trace(bytes: &[u8], table: &mut [u8], answer: &mut [u8; 80]) -> u32
     ensures { λ r. ⌜ Replies (readReply (recordsRead (now (bytes .entry)) (length (now (table .entry))))) r (now (answer .exit)) × (now (table .exit) ≡ sets (now (table .entry)) 0 (rowsBytes (readRows (now (bytes .entry)) (length (now (table .entry)))))) ⌝ }
 {
     let rows = table_rows(table.len());
@@ -147,7 +147,7 @@ pub extern "C" fn trial_trace(bytes: &[u8], table: &mut [u8], answer: &mut [u8; 
     let a = read.answer;
     match a {
         RecordsAnswer::Parsed(parsed) => {
-            emdf_rows::put_nine(answer, 0, emdf_answers::parsed_words(parsed))
+            emdf_rows::put_reading(answer, 0, emdf_answers::parsed_words(parsed))
         }
         RecordsAnswer::Refused(why) => emdf_rows::put_refusal(answer, why),
     }
@@ -240,7 +240,7 @@ fn put_bytes(out: &mut [u8], bytes: &[u8])
 
 // validate_joc_profile, with the answer of emdf_verdict.
 #[no_mangle]
-pub extern "C" fn trial_verdict(bytes: &[u8], answer: &mut [u8; 32]) -> u32
+pub extern "C" fn trial_verdict(bytes: &[u8], answer: &mut [u8; 40]) -> u32
     ensures { λ r. ⌜ Replies (verdictReply (verdict EtsiStrict (now (bytes .entry)))) r (now (answer .exit)) ⌝ }
 {
     let judged = joc_profile::validate_joc_profile(bytes);

@@ -112,12 +112,12 @@ ones-word (b ∷ bs) = mark-first (if b then 1 else 0) (word bs) (ones bs) (bit-
 
 -- ---- the verdict on two payloads
 
-module _ (profile : JocValidationProfile) (o j : PlacedConfig) {m : ℕ} {t : Bool} (is : m ≡ word (deviations (o .config) (j .config))) (met : t ≡ meetsProfile profile (o .config) (j .config)) where
-  pub judge-refused : not t ≡ true → Refused (Configuration m (onesIn m)) ≡ judge profile o j
+module _ (profile : JocValidationProfile) (most : ℕ) (o j : PlacedConfig) {m : ℕ} {t : Bool} (is : m ≡ word (deviations (o .config) (j .config))) (met : t ≡ meetsProfile profile (o .config) (j .config)) where
+  pub judge-refused : not t ≡ true → Refused (Configuration m (onesIn m)) ≡ judge profile most o j
   unfolding judge
   judge-refused h = rw (fails h met, is, ones-word)
 
   pub judge-accepted : {st : JocValidationStatus} → not t ≡ false → st ≡ status (onesIn m)
-      → Accepted (record { oamd = o .place; joc = j .place; deviations = m; status = st }) ≡ judge profile o j
+      → Accepted (record { oamd = o .place; joc = j .place; deviations = m; status = st; «largest_groups» = most }) ≡ judge profile most o j
   unfolding judge
   judge-accepted {st} h k = rw (holds h met, k, is, ones-word)

@@ -22,13 +22,14 @@ use emdf_format::Optional;
 use emdf_format::PlacedConfig;
 use emdf_format::ValidatedJocProfile;
 
-// Table 56, as the original has it.
+// Table 56, as the original has it, of a carrier with this largest number of groups.
 pub fn judge_configs(
     profile: JocValidationProfile,
+    most: usize,
     oamd: PlacedConfig,
     joc: PlacedConfig,
 ) -> JocProfileAnswer
-    ensures { λ r. ⌜ r ≡ judge profile oamd joc ⌝ }
+    ensures { λ r. ⌜ r ≡ judge profile most oamd joc ⌝ }
 {
     let first = oamd.config;
     let second = joc.config;
@@ -45,6 +46,7 @@ pub fn judge_configs(
         joc: joc.place,
         deviations: marks,
         status: status_of(count),
+        largest_groups: most,
     })
 }
 

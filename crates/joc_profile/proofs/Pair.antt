@@ -11,7 +11,8 @@ use denote.Enum.Declared.{tagOf}
 use borrow.Author.Tests.{ne-eqb}
 use Rattle.openjoc_bitio.specs.Choice.{if_then_else_}
 use Rattle.openjoc_bitio.specs.declared.BitCursor.{BitCursor}
-use Rattle.emdf_format.specs.Reading.{Found, Container, accepted, reading}
+use Rattle.emdf_format.specs.Reading.{Found, Container, accepted, reading, contentsOf}
+use Rattle.emdf_format.specs.Groups.{largestGroups}
 use Rattle.emdf_format.specs.Profile.{countId, firstId, onlyId, judge, judged, verdictOn, verdict}
 use Rattle.emdf_format.specs.declared.JocValidationProfile.{JocValidationProfile}
 use Rattle.emdf_format.specs.declared.JocProfileError.the-variants.{Emdf, PayloadCount}
@@ -21,7 +22,9 @@ use Rattle.emdf_format.specs.declared.EmdfError.{EmdfError}
 use Rattle.emdf_format.specs.declared.PayloadRecord.{PayloadRecord}
 use Rattle.emdf_format.specs.declared.PlacedConfig.{PlacedConfig}
 use Rattle.emdf_payloads.specs.declared.PayloadStep.the-variants as PayloadStep
-use Rattle.openjoc_emdf.specs.Answers.{openAnswer}
+use Rattle.emdf_container.specs.Container.{containerOf}
+use Rattle.openjoc_emdf.specs.declared.ParsedEmdf.{ParsedEmdf}
+use Rattle.openjoc_emdf.specs.Answers.{parsedEmdf, openAnswer}
 use Rattle.openjoc_emdf.specs.declared.OpenAnswer.{OpenAnswer}
 use Rattle.openjoc_emdf.specs.declared.OpenAnswer.the-variants as OpenAnswer
 use Rattle.openjoc_emdf.proofs.Opening.{unopened}
@@ -115,34 +118,39 @@ seen-agrees id k (x ∷ xs) = go (eqb (x .record-of .id) id) (seen-agrees id (k 
 abbrev NotOne : Seen → Type 0
 NotOne o = OneOf (0 ∷ 2 ∷ []) (tagOf seen-type.the-type o)
 
-module _ (profile : JocValidationProfile) (o j : Seen) where
+module _ (profile : JocValidationProfile) (most : ℕ) (o j : Seen) where
   abbrev counts : JocProfileAnswer
   counts = JocProfileAnswer.Refused (PayloadCount (countOf o) (countOf j))
 
   -- 14: one of them is missing or repeated
-  pub oamd-missing : {m n : ℕ} → NotOne o → m ≡ countOf o → n ≡ countOf j → JocProfileAnswer.Refused (PayloadCount m n) ≡ judgedPair profile o j
+  pub oamd-missing : {m n : ℕ} → NotOne o → m ≡ countOf o → n ≡ countOf j → JocProfileAnswer.Refused (PayloadCount m n) ≡ judgedPair profile most o j
   unfolding judgedPair judged placedOf
   oamd-missing f a b = rw (a, b) (go o f)
     where
-      go : (x : Seen) → NotOne x → counts ≡ judged profile (placedOf x) (placedOf j) counts
+      go : (x : Seen) → NotOne x → counts ≡ judged profile most (placedOf x) (placedOf j) counts
       go Nothing f = refl
       go (One p) f = absurd (miss (0 ∷ 2 ∷ []) 1 tt f)
       go (Several k) f = refl
 
-  pub joc-missing : {m n : ℕ} {p : PlacedConfig} → o ≡ One p → NotOne j → m ≡ countOf o → n ≡ countOf j → JocProfileAnswer.Refused (PayloadCount m n) ≡ judgedPair profile o j
+  pub joc-missing : {m n : ℕ} {p : PlacedConfig} → o ≡ One p → NotOne j → m ≡ countOf o → n ≡ countOf j → JocProfileAnswer.Refused (PayloadCount m n) ≡ judgedPair profile most o j
   unfolding judgedPair judged placedOf
-  joc-missing {p = p} e f a b = rw (a, b) (go j f ∙ ap (λ (x : Seen). judged profile (placedOf x) (placedOf j) counts) (sym e))
+  joc-missing {p = p} e f a b = rw (a, b) (go j f ∙ ap (λ (x : Seen). judged profile most (placedOf x) (placedOf j) counts) (sym e))
     where
-      go : (x : Seen) → NotOne x → counts ≡ judged profile (some p) (placedOf x) counts
+      go : (x : Seen) → NotOne x → counts ≡ judged profile most (some p) (placedOf x) counts
       go Nothing f = refl
       go (One q) f = absurd (miss (0 ∷ 2 ∷ []) 1 tt f)
       go (Several k) f = refl
 
-  pub both-there : {r : JocProfileAnswer} {p q : PlacedConfig} → o ≡ One p → j ≡ One q → r ≡ judge profile p q → r ≡ judgedPair profile o j
+  pub both-there : {r : JocProfileAnswer} {p q : PlacedConfig} → o ≡ One p → j ≡ One q → r ≡ judge profile most p q → r ≡ judgedPair profile most o j
   unfolding judgedPair judged placedOf
   both-there e f h = rw (e, f) h
 
 -- ---- the verdict on a carrier
+
+-- a carrier that is read has its contents' groups
+pub parsed-groups : {n : ℕ} (c : Container) {p : ParsedEmdf} → parsedEmdf n c ≡ p → p .container .«largest_groups» ≡ largestGroups (contentsOf c)
+unfolding containerOf
+parsed-groups c h = rw (← h)
 
 -- the payloads of a carrier that is read are never refused
 pub never-refused : (xs : List Found) {a : PairAnswer} {why : EmdfError} → a ≡ pairOf xs → a ≡ PairAnswer.Refused why → ⊥
@@ -155,15 +163,15 @@ module _ (profile : JocValidationProfile) (s : List ℕ) where
   refused-verdict {a} {why} {x} i h k = let z : x ≡ why = rw h at k in rw (unopened s (sym i ∙ h), z)
 
   module _ {n : ℕ} {c : Container} (read : reading s ≡ accepted n c) {a : PairAnswer} (is : a ≡ pairOf (c .found)) where
-    pub found-verdict : {o j : Seen} {r : JocProfileAnswer} → a ≡ Pair o j → r ≡ judgedPair profile o j → r ≡ verdict profile s
+    pub found-verdict : {most : ℕ} {o j : Seen} {r : JocProfileAnswer} → most ≡ largestGroups (contentsOf c) → a ≡ Pair o j → r ≡ judgedPair profile most o j → r ≡ verdict profile s
     unfolding verdict verdictOn judgedPair onlyId pairOf
-    found-verdict {o} {j} h k =
+    found-verdict {o = o} {j = j} m h k =
         let e = sym is ∙ h in
         let f : seenFrom Nothing 11 0 (c .found) ≡ o = cc in
         let g : seenFrom Nothing 14 0 (c .found) ≡ j = cc in
         let u = seen-agrees 11 0 (c .found) in
         let v = seen-agrees 14 0 (c .found) in
-        rw read (rw (← f, ← g, u .place, u .count, v .place, v .count) at k)
+        rw read (rw (m, ← f, ← g, u .place, u .count, v .place, v .count) at k)
 
 -- ---- both ids: what is left to see gives what the whole list gives
 

@@ -51,8 +51,8 @@ placedOf Nothing = none
 placedOf (One x) = some x
 placedOf (Several n) = none
 
-unfoldable pub judgedPair : JocValidationProfile → Seen → Seen → JocProfileAnswer
-judgedPair profile o j = judged profile (placedOf o) (placedOf j) (JocProfileAnswer.Refused (PayloadCount (countOf o) (countOf j)))
+unfoldable pub judgedPair : JocValidationProfile → ℕ → Seen → Seen → JocProfileAnswer
+judgedPair profile most o j = judged profile most (placedOf o) (placedOf j) (JocProfileAnswer.Refused (PayloadCount (countOf o) (countOf j)))
 
 -- ---- r is why an answer is refused; of an accepted one nothing is said
 

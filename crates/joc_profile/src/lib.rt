@@ -50,7 +50,7 @@ pub fn validate_joc_profile_for(bytes: &[u8], profile: JocValidationProfile) -> 
     let PairAnswer::Pair(oamd, joc) = pair else {
         return JocProfileAnswer::Refused(JocProfileError::Emdf(pair_error(pair)));
     };
-    judge_pair(profile, oamd, joc)
+    judge_pair(profile, parsed.container.largest_groups, oamd, joc)
 }
 
 // The verdict by the strict policy.
@@ -145,8 +145,8 @@ fn seen_count(s: Seen) -> usize
 }
 
 // One payload of each id, or how many there are.
-fn judge_pair(profile: JocValidationProfile, oamd: Seen, joc: Seen) -> JocProfileAnswer
-    ensures { λ r. ⌜ r ≡ judgedPair profile oamd joc ⌝ }
+fn judge_pair(profile: JocValidationProfile, most: usize, oamd: Seen, joc: Seen) -> JocProfileAnswer
+    ensures { λ r. ⌜ r ≡ judgedPair profile most oamd joc ⌝ }
 {
     let counts = JocProfileAnswer::Refused(JocProfileError::PayloadCount {
         oamd: seen_count(oamd),
@@ -158,5 +158,5 @@ fn judge_pair(profile: JocValidationProfile, oamd: Seen, joc: Seen) -> JocProfil
     let Seen::One(second) = joc else {
         return counts;
     };
-    joc_configs::judge_configs(profile, first, second)
+    joc_configs::judge_configs(profile, most, first, second)
 }

@@ -12,6 +12,8 @@ pub mod damage;
 pub mod draw;
 #[path = "oracle/facts.rs"]
 pub mod facts;
+#[path = "model/groups.rs"]
+pub mod groups;
 #[path = "cases/limits.rs"]
 pub mod limits;
 #[path = "cases/noes.rs"]

@@ -17,11 +17,11 @@ refused-at-requires c κs = search needs
 
 returns : tie.Need-returns
 unfolding fieldReply
-returns c = rw (c .before .before .answer .given .1) (c .accepted-at .ensures)
+returns c = rw (c .before .before .answer .given .1, c .accepted-at .ensures)
 
 returns-2 : tie.Need-returns-2
 unfolding fieldReply
-returns-2 c = rw (c .before .before .answer2 .given .1) (c .refused-at .ensures)
+returns-2 c = rw (c .before .before .answer2 .given .1, c .refused-at .ensures)
 
 pub field-reply-spec : {M : Type 1} → statement M
 field-reply-spec =

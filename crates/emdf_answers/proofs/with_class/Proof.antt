@@ -34,9 +34,12 @@ array-read-t27 c = search needs
 array-read-t30 : tie.Need-array-read-t30
 array-read-t30 c = search needs
 
+array-read-t33 : tie.Need-array-read-t33
+array-read-t33 c = search needs
+
 returns : tie.Need-returns
 returns c =
-    let e : length (c .args .t2) ≡ 9 = search needs in
+    let e : length (c .args .t2) ≡ 10 = search needs in
     ap (λ (l : List ℕ). c .args .class ∷ l) (rw e at (elements-all (c .args .t2)))
 
 pub with-class-spec : {M : Type 1} → statement M
@@ -52,4 +55,5 @@ with-class-spec =
     array-read-t24
     array-read-t27
     array-read-t30
+    array-read-t33
     returns)

@@ -1,18 +1,18 @@
 use borrow.Author.Needs.{needs}
+use mathlib.Core.Path.{ap, _∙_}
 use native.Mathlib.Omega.{arith}
-use mathlib.Core.Path.{sym}
-use Rattle.emdf_compact.proofs.Words.{shortest}
+use Prim.Native.Nat.{ℕ, _%_}
+use Rattle.emdf_compact.proofs.Groups.{length-of, length-few}
 use Rattle.emdf_compact.proofs.config_length.Statement.{statement}
 use Rattle.emdf_compact.proofs.config_length.Tie as tie
 
+grouped-length-requires : tie.Need-grouped-length-requires
+grouped-length-requires c κs = search needs
+
 returns : tie.Need-returns
-returns c = (sym (shortest _ (c .if1 .taken)), omega arith)
-
-parts-length-requires : tie.Need-parts-length-requires
-parts-length-requires c κs = search needs
-
-returns-2 : tie.Need-returns-2
-returns-2 c = search needs
+returns c =
+    let h = ap (λ (n : ℕ). n % 128) (c .grouped-length .ensures .0) ∙ length-of (c .before .args .x) in
+    (h, omega (arith, h, length-few (c .before .args .x)))
 
 pub config-length-spec : {M : Type 1} → statement M
-config-length-spec = tie.close (tie.spec returns parts-length-requires returns-2)
+config-length-spec = tie.close (tie.spec grouped-length-requires returns)

@@ -1,10 +1,13 @@
 use borrow.Author.Needs.{needs}
-use Prim.Native.Nat.{ℕ, _≤_}
+use mathlib.Core.Path.{_≡_}
+use Prim.Native.Nat.{ℕ, _+_, _*_, _/_, _≤_}
+use lib.Dec.{eqb}
+use Rattle.openjoc_bitio.specs.Choice.{if_then_else_}
 use native.Mathlib.Omega.{arith}
 use borrow.Author.Tests.{lt-leb, le-leb}
 use Rattle.emdf_format.specs.Contents.{_&_}
-use Rattle.emdf_compact.specs.Words.{flaggedEnds, variableEnds, codecEnds, compactSettings, configLength}
-use Rattle.emdf_compact.proofs.Words.{ends, ends-not, span-few, variable-few, codec-few, offset-there}
+use Rattle.emdf_compact.specs.Words.{flaggedEnds, variableEnds, codecEnds, compactSettings, configLength, twoGroups, groupedLength}
+use Rattle.emdf_compact.proofs.Words.{ends, ends-not, span-few, variable-few, codec-few, offset-there, span-seven, span-mark}
 use Rattle.emdf_compact.proofs.parts_length.Statement.{statement}
 use Rattle.emdf_compact.proofs.parts_length.Tie as tie
 
@@ -15,7 +18,7 @@ flagged-length-requires : tie.Need-flagged-length-requires
 flagged-length-requires c κs = search needs
 
 returns : tie.Need-returns
-unfolding configLength compactSettings _&_
+unfolding groupedLength compactSettings _&_
 returns c =
     let n = ends-not (flaggedEnds 11 _) (c .before .flagged-length .ensures .0) (c .if1 .taken) (at-most (span-few 11 _ (omega arith))) in
     (simp n, omega arith)
@@ -27,7 +30,7 @@ flagged-length-requires-2 : tie.Need-flagged-length-requires-2
 flagged-length-requires-2 c κs = search needs
 
 returns-2 : tie.Need-returns-2
-unfolding configLength compactSettings _&_
+unfolding groupedLength compactSettings _&_
 returns-2 c =
     let e1 = ends (flaggedEnds 11 _) (c .before .before .before .flagged-length .ensures .0) (c .before .before .if1 .left) in
     let n = ends-not (flaggedEnds 11 _) (c .before .flagged-length2 .ensures .0) (c .if2 .taken) (at-most (span-few 11 _ (omega arith))) in
@@ -40,7 +43,7 @@ variable-length-requires : tie.Need-variable-length-requires
 variable-length-requires c κs = search needs
 
 returns-3 : tie.Need-returns-3
-unfolding configLength compactSettings _&_
+unfolding groupedLength compactSettings _&_
 returns-3 c =
     let e1 = ends (flaggedEnds 11 _) (c .before .before .before .before .before .flagged-length .ensures .0) (c .before .before .before .before .if1 .left) in
     let e2 = ends (flaggedEnds 11 _) (c .before .before .before .flagged-length2 .ensures .0) (c .before .before .if2 .left) in
@@ -54,7 +57,7 @@ codec-length-requires : tie.Need-codec-length-requires
 codec-length-requires c κs = search needs
 
 returns-4 : tie.Need-returns-4
-unfolding configLength compactSettings _&_
+unfolding groupedLength compactSettings _&_
 returns-4 c =
     let e1 = ends (flaggedEnds 11 _) (c .before .before .before .before .before .before .before .flagged-length .ensures .0) (c .before .before .before .before .before .before .if1 .left) in
     let e2 = ends (flaggedEnds 11 _) (c .before .before .before .before .before .flagged-length2 .ensures .0) (c .before .before .before .before .if2 .left) in
@@ -72,7 +75,7 @@ add-head-3 : tie.Need-add-head-3
 add-head-3 c = search needs
 
 returns-5 : tie.Need-returns-5
-unfolding configLength compactSettings _&_
+unfolding groupedLength compactSettings _&_
 returns-5 c =
     let e1 = ends (flaggedEnds 11 _) (c .before .before .before .before .before .before .before .before .flagged-length .ensures .0) (c .before .before .before .before .before .before .before .if1 .left) in
     let e2 = ends (flaggedEnds 11 _) (c .before .before .before .before .before .before .flagged-length2 .ensures .0) (c .before .before .before .before .before .if2 .left) in
@@ -89,14 +92,26 @@ controls-length-requires c κs = search needs
 add-result : tie.Need-add-result
 add-result c = search needs
 
+add-result-2 : tie.Need-add-result-2
+add-result-2 c = search needs
+
+mul-result : tie.Need-mul-result
+mul-result c = search needs
+
+add-result-3 : tie.Need-add-result-3
+add-result-3 c = search needs
+
 returns-6 : tie.Need-returns-6
-unfolding configLength compactSettings _&_
+unfolding groupedLength twoGroups configLength compactSettings _&_
 returns-6 c =
     let e1 = ends (flaggedEnds 11 _) (c .before .before .before .before .before .before .before .before .before .flagged-length .ensures .0) (c .before .before .before .before .before .before .before .before .if1 .left) in
     let e2 = ends (flaggedEnds 11 _) (c .before .before .before .before .before .before .before .flagged-length2 .ensures .0) (c .before .before .before .before .before .before .if2 .left) in
     let e3 = ends (variableEnds 2 _) (c .before .before .before .before .before .variable-length .ensures .0) (c .before .before .before .before .if3 .left) in
     let e4 = ends (codecEnds _) (c .before .before .before .codec-length .ensures .0) (c .before .before .if4 .left) in
-    (simp (e1 .0, ← e1 .1, e2 .0, ← e2 .1, e3 .0, ← e3 .1, e4 .0, ← e4 .1, le-leb _ _ (c .before .if5 .left), ← offset-there, c .controls-length .ensures .0), omega arith)
+    let g = c .before .before .before .before .before .variable-length .result in
+    let m : 128 * ((g + 1) / 8) ≡ (if eqb g 7 then 128 else 0) = rw (e3 .1) (span-mark _) in
+    let few : g ≤ 7 = rw (e3 .1) (span-seven _) in
+    (simp (e1 .0, ← e1 .1, e2 .0, ← e2 .1, e3 .0, ← e3 .1, e4 .0, ← e4 .1, le-leb _ _ (c .before .if5 .left), ← offset-there, c .controls-length .ensures .0, m), omega (arith, few))
 
 pub parts-length-spec : {M : Type 1} → statement M
 parts-length-spec =
@@ -120,4 +135,7 @@ parts-length-spec =
     shl-controls-length
     controls-length-requires
     add-result
+    add-result-2
+    mul-result
+    add-result-3
     returns-6)

@@ -4,6 +4,7 @@ use mathlib.Core.Path.{refl}
 use native.Mathlib.Omega.{arith}
 use denote.Ref.{now}
 use Rattle.openjoc_bitio.proofs.Cursor.{remaining-end}
+use Rattle.emdf_format.specs.Groups.{largestGroups}
 use Rattle.emdf_format.proofs.Standing.{holds}
 use Rattle.emdf_container.specs.Container.{containerOf, containerAnswer}
 use Rattle.emdf_container.proofs.Ends.{short-protection}
@@ -54,11 +55,11 @@ protection-at-requires-2 : tie.Need-protection-at-requires-2
 protection-at-requires-2 c κs = (fits-word _ (c .before .before .before .protection-length2 .ensures), omega (arith, end-fits _ (c .before .before .before .before .before .before .before .before .args .c) (c .before .before .before .before .before .before .bits-remaining .ensures) (c .before .before .is-end .ensures (holds (c .before .if1 .left) refl))))
 
 returns-2 : tie.Need-returns-2
-unfolding containerAnswer containerOf
+unfolding containerAnswer containerOf largestGroups
 returns-2 c =
     let a = c .before .before .before .before .before .before .before .before .before .args in
     let d = c .before .before .before .is-end .ensures (holds (c .before .before .if1 .left) refl) in
-    λ xs len. rw (end-found (now (a .s)) (a .c .end) (a .c .position) (a .key) xs (c .before .before .before .before .before .before .window-at .ensures) (c .before .before .before .before .before .protection-length .ensures) (c .before .before .before .before .protection-length2 .ensures) (c .before .before .before .before .before .before .before .bits-remaining .ensures) d, len, c .before .protection-at .ensures, c .protection-at2 .ensures)
+    λ xs len gr. rw (end-found (now (a .s)) (a .c .end) (a .c .position) (a .key) xs (c .before .before .before .before .before .before .window-at .ensures) (c .before .before .before .before .before .protection-length .ensures) (c .before .before .before .before .protection-length2 .ensures) (c .before .before .before .before .before .before .before .bits-remaining .ensures) d, len, gr, c .before .protection-at .ensures, c .protection-at2 .ensures)
 
 pub container-end-spec : {M : Type 1} → statement M
 container-end-spec =

@@ -1,8 +1,11 @@
 use borrow.Author.Needs.{needs}
-use mathlib.Core.Path.{sym, _∙_}
+use mathlib.Core.Path.{refl, sym, _∙_}
+use native.Mathlib.Omega.{arith}
 use Rattle.emdf_container.specs.Container.{containerAfter, containerAnswer}
 use Rattle.emdf_container.specs.declared.ContainerAnswer.the-variants.{Refused}
-use Rattle.emdf_fields.proofs.Answers.{via, count-found, by-count}
+use Rattle.emdf_format.specs.Syntax.{escape}
+use Rattle.emdf_fields.proofs.Answers.{via}
+use Rattle.emdf_payloads.proofs.Answers.{list-found, by-list}
 use Rattle.emdf_container.proofs.Ends.{left, container-refuses}
 use Rattle.emdf_container.proofs.parse_payloads.Statement.{statement}
 use Rattle.emdf_container.proofs.parse_payloads.Tie as tie
@@ -16,12 +19,19 @@ enum-known-a c = search needs
 enum-told : tie.Need-enum-told
 enum-told c = search needs
 
-count-error-requires : tie.Need-count-error-requires
-count-error-requires c κs = search needs
+list-error-requires : tie.Need-list-error-requires
+list-error-requires c κs = search needs
 
 returns : tie.Need-returns
 unfolding containerAfter containerAnswer
-returns c = left containerAnswer _ _ _ _ (by-count containerAnswer Refused container-refuses _ _ _ _ _ (c .before .before .before .count-payloads .ensures) (c .before .enum-told .given .1) (c .count-error .ensures))
+returns c = left containerAnswer _ _ _ _ (by-list containerAnswer Refused container-refuses _ _ _ _ _ (c .before .before .before .count-payloads .ensures) (c .before .enum-told .given .1) (c .list-error .ensures))
+
+extended-groups-requires : tie.Need-extended-groups-requires
+unfolding escape
+extended-groups-requires c κs = (omega arith, omega arith, refl)
+
+larger-requires : tie.Need-larger-requires
+larger-requires c κs = search needs
 
 container-end-requires : tie.Need-container-end-requires
 container-end-requires c κs = search needs
@@ -29,8 +39,10 @@ container-end-requires c κs = search needs
 returns-2 : tie.Need-returns-2
 unfolding containerAfter containerAnswer
 returns-2 c =
-    let d = count-found _ _ (sym (c .before .before .before .before .count-payloads .ensures) ∙ c .before .before .a .given .1) in
-    left containerAnswer _ _ _ _ (via containerAnswer _ _ _ _ _ (d .2) (c .container-end .ensures (d .0) (d .1)))
+    let l = c .before in
+    let e = l .before in
+    let d = list-found _ _ (sym (e .before .before .before .before .count-payloads .ensures) ∙ e .before .before .a .given .1) in
+    left containerAnswer _ _ _ _ (via containerAnswer _ _ _ _ _ (d .3) (c .container-end .ensures (d .0) (d .1) (rw (l .larger .ensures, e .extended-groups .ensures, d .2))))
 
 pub parse-payloads-spec : {M : Type 1} → statement M
 parse-payloads-spec =
@@ -39,7 +51,9 @@ parse-payloads-spec =
     count-payloads-requires
     enum-known-a
     enum-told
-    count-error-requires
+    list-error-requires
     returns
+    extended-groups-requires
+    larger-requires
     container-end-requires
     returns-2)

@@ -27,8 +27,8 @@ returns-2 : tie.Need-returns-2
 unfolding extendedValue fieldAnswer give
 returns-2 c = via fieldAnswer _ _ _ _ _ (field-found _ (sym (c .before .before .before .before .read-bits .ensures) ∙ c .before .before .a .given .1)) (that fieldAnswer _ _ _ _ _ _ (T-not-of (ne-eqb _ _ (λ h. c .if1 .taken (h ∙ sym (c .before .before .before .before .before .before .pre .1))))) refl)
 
-variable-bits-requires : tie.Need-variable-bits-requires
-variable-bits-requires c κs = search needs
+variable-field-requires : tie.Need-variable-field-requires
+variable-field-requires c κs = search needs
 
 enum-known-b : tie.Need-enum-known-b
 enum-known-b c = search needs
@@ -38,7 +38,7 @@ enum-told-2 c = search needs
 
 returns-3 : tie.Need-returns-3
 unfolding extendedValue fieldAnswer give
-returns-3 c = via fieldAnswer _ _ _ _ _ (field-found _ (sym (c .before .before .before .before .before .before .before .read-bits .ensures) ∙ c .before .before .before .before .before .a .given .1)) (this fieldAnswer _ _ _ _ _ _ (T-of (eq-eqb _ _ (c .before .before .before .if1 .left ∙ c .before .before .before .before .before .before .before .before .before .pre .1))) (field-ends _ _ _ _ _ (c .before .before .variable-bits .ensures) (c .enum-told2 .given .1)))
+returns-3 c = via fieldAnswer _ _ _ _ _ (field-found _ (sym (c .before .before .before .before .before .before .before .read-bits .ensures) ∙ c .before .before .before .before .before .a .given .1)) (this fieldAnswer _ _ _ _ _ _ (T-of (eq-eqb _ _ (c .before .before .before .if1 .left ∙ c .before .before .before .before .before .before .before .before .before .pre .1))) (field-ends _ _ _ _ _ (c .before .before .variable-field .ensures) (c .enum-told2 .given .1)))
 
 sub-if2 : tie.Need-sub-if2
 sub-if2 c = search needs
@@ -47,7 +47,7 @@ returns-4 : tie.Need-returns-4
 unfolding extendedValue fieldAnswer give
 returns-4 c =
     let sum : 2 ^ 64 ≤ c .before .before .before .before .before .before .before .a .given .0 .0 + c .before .before .b .given .0 .0 = omega arith in
-    via fieldAnswer _ _ _ _ _ (field-found _ (sym (c .before .before .before .before .before .before .before .before .before .read-bits .ensures) ∙ c .before .before .before .before .before .before .before .a .given .1)) (this fieldAnswer _ _ _ _ _ _ (T-of (eq-eqb _ _ (c .before .before .before .before .before .if1 .left ∙ c .before .before .before .before .before .before .before .before .before .before .before .pre .1))) (via fieldAnswer _ _ _ _ _ (field-found _ (sym (c .before .before .before .before .variable-bits .ensures) ∙ c .before .before .b .given .1)) (no-more fieldAnswer _ _ _ _ _ _ (T-not-of (le-ltb _ _ sum)) refl)))
+    via fieldAnswer _ _ _ _ _ (field-found _ (sym (c .before .before .before .before .before .before .before .before .before .read-bits .ensures) ∙ c .before .before .before .before .before .before .before .a .given .1)) (this fieldAnswer _ _ _ _ _ _ (T-of (eq-eqb _ _ (c .before .before .before .before .before .if1 .left ∙ c .before .before .before .before .before .before .before .before .before .before .before .pre .1))) (via fieldAnswer _ _ _ _ _ (field-found _ (sym (c .before .before .before .before .variable-field .ensures) ∙ c .before .before .b .given .1)) (no-more fieldAnswer _ _ _ _ _ _ (T-not-of (le-ltb _ _ sum)) refl)))
 
 add-t12 : tie.Need-add-t12
 add-t12 c = search needs
@@ -56,7 +56,7 @@ returns-5 : tie.Need-returns-5
 unfolding extendedValue fieldAnswer give
 returns-5 c =
     let sum : c .before .before .before .before .before .before .before .a .given .0 .0 + c .before .before .b .given .0 .0 < 2 ^ 64 = omega arith in
-    via fieldAnswer _ _ _ _ _ (field-found _ (sym (c .before .before .before .before .before .before .before .before .before .read-bits .ensures) ∙ c .before .before .before .before .before .before .before .a .given .1)) (this fieldAnswer _ _ _ _ _ _ (T-of (eq-eqb _ _ (c .before .before .before .before .before .if1 .left ∙ c .before .before .before .before .before .before .before .before .before .before .before .pre .1))) (via fieldAnswer _ _ _ _ _ (field-found _ (sym (c .before .before .before .before .variable-bits .ensures) ∙ c .before .before .b .given .1)) (yes fieldAnswer _ _ _ _ _ _ (T-of (lt-ltb _ _ sum)) refl)))
+    via fieldAnswer _ _ _ _ _ (field-found _ (sym (c .before .before .before .before .before .before .before .before .before .read-bits .ensures) ∙ c .before .before .before .before .before .before .before .a .given .1)) (this fieldAnswer _ _ _ _ _ _ (T-of (eq-eqb _ _ (c .before .before .before .before .before .if1 .left ∙ c .before .before .before .before .before .before .before .before .before .before .before .pre .1))) (via fieldAnswer _ _ _ _ _ (field-found _ (sym (c .before .before .before .before .variable-field .ensures) ∙ c .before .before .b .given .1)) (yes fieldAnswer _ _ _ _ _ _ (T-of (lt-ltb _ _ sum)) refl)))
 
 pub extended-value-spec : {M : Type 1} → statement M
 extended-value-spec =
@@ -67,7 +67,7 @@ extended-value-spec =
     enum-told
     returns
     returns-2
-    variable-bits-requires
+    variable-field-requires
     enum-known-b
     enum-told-2
     returns-3

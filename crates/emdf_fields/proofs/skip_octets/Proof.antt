@@ -1,12 +1,14 @@
 use borrow.Author.Needs.{needs}
-use Prim.Native.Nat.{_+_, _-_, _*_, _≤_, _<_}
-use mathlib.Core.Path.{_≡_, _∙_}
+use Prim.Native.Nat.{ℕ, _+_, _-_, _*_, _≤_, _<_}
+use mathlib.Core.Path.{_≡_, ap, _∙_}
 use native.Mathlib.Omega.{arith}
 use denote.Ref.{now}
 use Rattle.openjoc_bitio.proofs.Cursor.{remaining-end}
+use Rattle.emdf_format.specs.Reader.{cursorAt}
 use Rattle.emdf_format.proofs.Standing.{bitLimit, remaining-limit}
 use Rattle.emdf_format.proofs.Loops.{octets-there, octets-short}
 use Rattle.emdf_fields.specs.Fields.{countAnswer}
+use Rattle.emdf_fields.specs.declared.CountAnswer.the-variants.{Counted}
 use Rattle.emdf_fields.proofs.Octets.{length-octets-at}
 use Rattle.emdf_fields.proofs.skip_octets.Statement.{statement}
 use Rattle.emdf_fields.proofs.skip_octets.Tie as tie
@@ -41,7 +43,7 @@ returns-2 c =
     let h : c .before .before .bits-remaining .result ≡ bitLimit s e - p = c .before .before .bits-remaining .ensures ∙ remaining-limit s e p in
     let k : 8 * a .n ≤ bitLimit s e - p = omega arith in
     let m : p + a .n * 8 ≡ p + 8 * a .n = omega arith in
-    rw (octets-there (a .n) s e p k, length-octets-at, m)
+    rw (octets-there (a .n) s e p k, length-octets-at) (ap (λ (q : ℕ). Counted (a .n) (cursorAt e q)) m)
 
 pub skip-octets-spec : {M : Type 1} → statement M
 skip-octets-spec =

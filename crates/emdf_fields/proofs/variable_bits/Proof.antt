@@ -1,50 +1,60 @@
 use borrow.Author.Needs.{needs}
-use mathlib.Core.Path.{_≡_, refl}
-use mathlib.Core.Bool.{true, false}
-use borrow.Author.Tests.{le-leb, lt-leb}
+use mathlib.Core.Path.{_≡_, sym, ap, _∙_}
+use Prim.Native.Nat.{ℕ, _+_, _*_}
 use native.Mathlib.Omega.{arith}
-use Prim.Native.Nat.{_≤_, _<_}
-use lib.Dec.{leb}
-use Rattle.emdf_format.specs.Contents.{_&_}
+use denote.Ref.{now}
+use Rattle.emdf_format.specs.Syntax.{groups}
 use Rattle.emdf_format.specs.Reader.{variableBits}
-use Rattle.emdf_format.proofs.Standing.{T-of, T-not-of}
-use Rattle.emdf_fields.specs.Fields.{fieldAnswer}
-use Rattle.emdf_fields.proofs.Answers.{yes, no-more}
+use Rattle.emdf_fields.specs.Fields.{variableAnswer}
+use Rattle.emdf_fields.specs.declared.VariableAnswer.the-variants as VariableAnswer
+use Rattle.emdf_fields.proofs.Answers.{variable-found, variable-ended, groups-over}
 use Rattle.emdf_fields.proofs.variable_bits.Statement.{statement}
 use Rattle.emdf_fields.proofs.variable_bits.Tie as tie
 
+-- the field that is found, and its bits
+found : (c : tie.After-value) → let k = c .before .before .before .before .args in
+    (c .value .given .0 .1 .0 .position ≡ k .c .position + (k .width + 1) * groups (k .width) (c .value .given .0 .0))
+    × (VariableAnswer.Value (c .value .given .0 .0) (groups (k .width) (c .value .given .0 .0)) (c .value .given .0 .1 .0) ≡ variableAnswer (k .width) (k .c .end) (variableBits (k .width) (k .limit) (now (k .s)) (k .c .end) (k .c .position)))
+found c = variable-found _ _ _ _ (sym (c .before .before .variable-field .ensures) ∙ c .value .given .1)
+
+variable-field-requires : tie.Need-variable-field-requires
+variable-field-requires c κs = search needs
+
+enum-known-value : tie.Need-enum-known-value
+enum-known-value c = search needs
+
+sub-groups : tie.Need-sub-groups
+sub-groups c = omega (arith, found (c .before .before) .0)
+
+add-groups : tie.Need-add-groups
+add-groups c = search needs
+
+div-groups : tie.Need-div-groups
+div-groups c = search needs
+
+enum-known-why : tie.Need-enum-known-why
+enum-known-why c = search needs
+
 returns : tie.Need-returns
-unfolding variableBits fieldAnswer _&_
 returns c =
-    let h : c .before .before .args .width < 1 = omega arith in
-    let t : leb 1 (c .before .before .args .width) & leb (c .before .before .args .width) 63 & leb 1 (c .before .before .args .limit) ≡ false = simp (lt-leb _ _ h) in
-    no-more fieldAnswer _ _ _ _ _ _ (T-not-of t) refl
+    let f = found (c .before .before) in
+    let k = c .before .before .before .before .before .before .args in
+    let d = c .before .before .value .given .0 in
+    let g = groups-over (k .c .position) (d .1 .0 .position) (k .width + 1) _ (omega arith) (f .0) in
+    ap (λ (n : ℕ). VariableAnswer.Value (d .0) n (d .1 .0)) g ∙ f .1
 
 returns-2 : tie.Need-returns-2
-unfolding variableBits fieldAnswer _&_
-returns-2 c =
-    let h : 1 ≤ c .before .before .before .args .width = omega arith in
-    let t : leb 1 (c .before .before .before .args .width) & leb (c .before .before .before .args .width) 63 & leb 1 (c .before .before .before .args .limit) ≡ false = simp (le-leb _ _ h, lt-leb _ _ (c .if2 .taken)) in
-    no-more fieldAnswer _ _ _ _ _ _ (T-not-of t) refl
-
-returns-3 : tie.Need-returns-3
-unfolding variableBits fieldAnswer _&_
-returns-3 c =
-    let h : 1 ≤ c .before .before .before .before .args .width = omega arith in
-    let k : c .before .before .before .before .args .limit < 1 = omega arith in
-    let t : leb 1 (c .before .before .before .before .args .width) & leb (c .before .before .before .before .args .width) 63 & leb 1 (c .before .before .before .before .args .limit) ≡ false = simp (le-leb _ _ h, le-leb _ _ (c .before .if2 .left), lt-leb _ _ k) in
-    no-more fieldAnswer _ _ _ _ _ _ (T-not-of t) refl
-
-groups-requires : tie.Need-groups-requires
-groups-requires c κs = search needs
-
-returns-4 : tie.Need-returns-4
-unfolding variableBits fieldAnswer _&_
-returns-4 c =
-    let h : 1 ≤ c .before .before .before .before .before .args .width = omega arith in
-    let k : 1 ≤ c .before .before .before .before .before .args .limit = omega arith in
-    let t : leb 1 (c .before .before .before .before .before .args .width) & leb (c .before .before .before .before .before .args .width) 63 & leb 1 (c .before .before .before .before .before .args .limit) ≡ true = simp (le-leb _ _ h, le-leb _ _ (c .before .before .if2 .left), le-leb _ _ k) in
-    yes fieldAnswer _ _ _ _ _ _ (T-of t) (c .groups .ensures)
+returns-2 c = variable-ended _ _ _ _ (sym (c .before .before .before .variable-field .ensures) ∙ c .before .why .given .1)
 
 pub variable-bits-spec : {M : Type 1} → statement M
-variable-bits-spec = tie.close (tie.spec returns returns-2 returns-3 groups-requires returns-4)
+variable-bits-spec =
+    tie.close
+    (tie.spec
+    variable-field-requires
+    enum-known-value
+    sub-groups
+    add-groups
+    div-groups
+    enum-known-why
+    returns
+    returns-2)

@@ -34,8 +34,8 @@ put-rows-requires c κs = search needs
 parsed-words-requires : tie.Need-parsed-words-requires
 parsed-words-requires c κs = search needs
 
-put-nine-requires : tie.Need-put-nine-requires
-put-nine-requires c κs = search needs
+put-reading-requires : tie.Need-put-reading-requires
+put-reading-requires c κs = search needs
 
 enum-known-a-2 : tie.Need-enum-known-a-2
 enum-known-a-2 c = search needs
@@ -50,7 +50,7 @@ returns-2 : tie.Need-returns-2
 returns-2 c =
     let r = c .before .before .before .before .before in
     let b = r .before .before .before in
-    read-carrier _ _ (opening (b .before .before)) (b .if1 .left) (c .put-nine .ensures) (c .before .parsed-words .ensures) (r .put-rows .ensures)
+    read-carrier _ _ (opening (b .before .before)) (b .if1 .left) (c .put-reading .ensures) (c .before .parsed-words .ensures) (r .put-rows .ensures)
 
 returns-3 : tie.Need-returns-3
 returns-3 c =
@@ -68,7 +68,7 @@ emdf-read-spec =
     slice-aggregate-put-rows
     put-rows-requires
     parsed-words-requires
-    put-nine-requires
+    put-reading-requires
     enum-known-a-2
     put-refusal-requires-2
     same-length

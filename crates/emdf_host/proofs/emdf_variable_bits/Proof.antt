@@ -9,13 +9,13 @@ variable-bits-requires c κs = search needs
 field-reply-requires : tie.Need-field-reply-requires
 field-reply-requires c κs = search needs
 
-put-reply-requires : tie.Need-put-reply-requires
-put-reply-requires c κs = search needs
+put-field-requires : tie.Need-put-field-requires
+put-field-requires c κs = search needs
 
 returns : tie.Need-returns
 unfolding variableBitsReply
-returns c = rw (← c .before .before .variable-bits .ensures, ← c .before .field-reply .ensures) (c .put-reply .ensures)
+returns c = rw (← c .before .before .variable-bits .ensures, ← c .before .field-reply .ensures) (c .put-field .ensures)
 
 pub emdf-variable-bits-spec : {M : Type 1} → statement M
 emdf-variable-bits-spec =
-    tie.close (tie.spec variable-bits-requires field-reply-requires put-reply-requires returns)
+    tie.close (tie.spec variable-bits-requires field-reply-requires put-field-requires returns)

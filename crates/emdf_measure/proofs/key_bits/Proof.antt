@@ -1,26 +1,29 @@
 use borrow.Author.Needs.{needs}
-use borrow.Author.Tests.{lt-ltb, le-ltb}
+use Prim.Native.Nat.{_≤_}
+use native.Mathlib.Omega.{arith}
+use lib.Dec.{lit<}
 use Rattle.emdf_format.specs.Syntax.{escape}
 use Rattle.emdf_format.specs.Contents.{extensionBits}
+use Rattle.emdf_measure.proofs.Asked.{extended-few}
 use Rattle.emdf_measure.proofs.key_bits.Statement.{statement}
 use Rattle.emdf_measure.proofs.key_bits.Tie as tie
 
-returns : tie.Need-returns
-unfolding extensionBits escape
-returns c = rw (lt-ltb _ 7 (c .if1 .taken))
+few : (c : tie.After-extended-groups) → c .extended-groups .result ≤ 64
+few c = rw (c .extended-groups .ensures) (extended-few 3 (c .before .args .key) (lit< tt) (omega arith))
 
-group-count-requires : tie.Need-group-count-requires
-group-count-requires c κs = search needs
+extended-groups-requires : tie.Need-extended-groups-requires
+unfolding escape
+extended-groups-requires c κs = search needs
 
 mul-result : tie.Need-mul-result
-mul-result c = search needs
+mul-result c = omega (arith, few c)
 
 add-result : tie.Need-add-result
-add-result c = search needs
+add-result c = omega (arith, few c)
 
-returns-2 : tie.Need-returns-2
-unfolding extensionBits escape
-returns-2 c = rw (le-ltb _ 7 (c .before .if1 .left), ← c .group-count .ensures .0)
+returns : tie.Need-returns
+unfolding extensionBits
+returns c = rw (c .extended-groups .ensures)
 
 pub key-bits-spec : {M : Type 1} → statement M
-key-bits-spec = tie.close (tie.spec returns group-count-requires mul-result add-result returns-2)
+key-bits-spec = tie.close (tie.spec extended-groups-requires mul-result add-result returns)

@@ -26,8 +26,8 @@ returns : tie.Need-returns
 unfolding payloadAfter payloadAnswer give
 returns c = here payloadAnswer _ _ _ _ (by-config payloadAnswer Refused payload-refuses _ _ _ _ _ (c .before .before .before .payload-config .ensures) (c .before .enum-told .given .1) (c .config-error .ensures))
 
-variable-bits-requires : tie.Need-variable-bits-requires
-variable-bits-requires c κs = search needs
+variable-field-requires : tie.Need-variable-field-requires
+variable-field-requires c κs = search needs
 
 enum-known-a2 : tie.Need-enum-known-a2
 enum-known-a2 c = search needs
@@ -40,7 +40,7 @@ field-error-requires c κs = search needs
 
 returns-2 : tie.Need-returns-2
 unfolding payloadAfter payloadAnswer give
-returns-2 c = here payloadAnswer _ _ _ _ (via payloadAnswer _ _ _ _ _ (config-found _ (sym (c .before .before .before .before .before .before .before .payload-config .ensures) ∙ c .before .before .before .before .before .a1 .given .1)) (here payloadAnswer _ _ _ _ (by-field payloadAnswer Refused payload-refuses _ _ _ _ _ (c .before .before .before .variable-bits .ensures) (c .before .enum-told2 .given .1) (c .field-error .ensures))))
+returns-2 c = here payloadAnswer _ _ _ _ (via payloadAnswer _ _ _ _ _ (config-found _ (sym (c .before .before .before .before .before .before .before .payload-config .ensures) ∙ c .before .before .before .before .before .a1 .given .1)) (here payloadAnswer _ _ _ _ (by-field payloadAnswer Refused payload-refuses _ _ _ _ _ (c .before .before .before .variable-field .ensures) (c .before .enum-told2 .given .1) (c .field-error .ensures))))
 
 skip-octets-requires : tie.Need-skip-octets-requires
 skip-octets-requires c κs = search needs
@@ -56,14 +56,14 @@ count-error-requires c κs = search needs
 
 returns-3 : tie.Need-returns-3
 unfolding payloadAfter payloadAnswer give
-returns-3 c = here payloadAnswer _ _ _ _ (via payloadAnswer _ _ _ _ _ (config-found _ (sym (c .before .before .before .before .before .before .before .before .before .before .before .payload-config .ensures) ∙ c .before .before .before .before .before .before .before .before .before .a1 .given .1)) (here payloadAnswer _ _ _ _ (via payloadAnswer _ _ _ _ _ (field-found _ (sym (c .before .before .before .before .before .before .before .variable-bits .ensures) ∙ c .before .before .before .before .before .a2 .given .1)) (here payloadAnswer _ _ _ _ (by-count payloadAnswer Refused payload-refuses _ _ _ _ _ (c .before .before .before .skip-octets .ensures) (c .before .enum-told3 .given .1) (c .count-error .ensures))))))
+returns-3 c = here payloadAnswer _ _ _ _ (via payloadAnswer _ _ _ _ _ (config-found _ (sym (c .before .before .before .before .before .before .before .before .before .before .before .payload-config .ensures) ∙ c .before .before .before .before .before .before .before .before .before .a1 .given .1)) (here payloadAnswer _ _ _ _ (via payloadAnswer _ _ _ _ _ (field-found _ (sym (c .before .before .before .before .before .before .before .variable-field .ensures) ∙ c .before .before .before .before .before .a2 .given .1)) (here payloadAnswer _ _ _ _ (by-count payloadAnswer Refused payload-refuses _ _ _ _ _ (c .before .before .before .skip-octets .ensures) (c .before .enum-told3 .given .1) (c .count-error .ensures))))))
 
 bit-trace-requires : tie.Need-bit-trace-requires
 bit-trace-requires c κs = search needs
 
 returns-4 : tie.Need-returns-4
 unfolding payloadAfter payloadAnswer give
-returns-4 c = here payloadAnswer _ _ _ _ (via payloadAnswer _ _ _ _ _ (config-found _ (sym (c .before .before .before .before .before .before .before .before .before .before .before .before .payload-config .ensures) ∙ c .before .before .before .before .before .before .before .before .before .before .a1 .given .1)) (here payloadAnswer _ _ _ _ (via payloadAnswer _ _ _ _ _ (field-found _ (sym (c .before .before .before .before .before .before .before .before .variable-bits .ensures) ∙ c .before .before .before .before .before .before .a2 .given .1)) (here payloadAnswer _ _ _ _ (via payloadAnswer _ _ _ _ _ (count-found _ _ (sym (c .before .before .before .before .skip-octets .ensures) ∙ c .before .before .a3 .given .1) .2) (here payloadAnswer _ _ _ _ (rw (c .bit-trace .ensures))))))))
+returns-4 c = here payloadAnswer _ _ _ _ (via payloadAnswer _ _ _ _ _ (config-found _ (sym (c .before .before .before .before .before .before .before .before .before .before .before .before .payload-config .ensures) ∙ c .before .before .before .before .before .before .before .before .before .before .a1 .given .1)) (here payloadAnswer _ _ _ _ (via payloadAnswer _ _ _ _ _ (field-found _ (sym (c .before .before .before .before .before .before .before .before .variable-field .ensures) ∙ c .before .before .before .before .before .before .a2 .given .1)) (here payloadAnswer _ _ _ _ (via payloadAnswer _ _ _ _ _ (count-found _ _ (sym (c .before .before .before .before .skip-octets .ensures) ∙ c .before .before .a3 .given .1) .2) (here payloadAnswer _ _ _ _ (rw (c .bit-trace .ensures))))))))
 
 pub after-by-fields-spec : {M : Type 1} → statement M
 after-by-fields-spec =
@@ -74,7 +74,7 @@ after-by-fields-spec =
     enum-told
     config-error-requires
     returns
-    variable-bits-requires
+    variable-field-requires
     enum-known-a2
     enum-told-2
     field-error-requires

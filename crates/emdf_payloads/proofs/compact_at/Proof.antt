@@ -7,7 +7,7 @@ use denote.Ref.{now}
 use Rattle.emdf_format.specs.Reader.{cursorAt}
 use Rattle.emdf_payloads.specs.Compact.{CompactAt, notCompact}
 use Rattle.emdf_payloads.specs.declared.CompactPayload.{CompactPayload}
-use Rattle.emdf_payloads.proofs.Compact.{compact-there, parts-most}
+use Rattle.emdf_payloads.proofs.Compact.{compact-there, compact-groups, parts-most}
 use Rattle.emdf_payloads.proofs.compact_at.Statement.{statement}
 use Rattle.emdf_payloads.proofs.compact_at.Tie as tie
 
@@ -20,6 +20,7 @@ nothing s e p l i =
       head = omega arith;
       size = omega arith;
       fits = omega arith;
+      groups = λ h. absurd (omega (arith, h));
     })
 
 not-compact-requires : tie.Need-not-compact-requires
@@ -52,6 +53,7 @@ returns-3 c =
       head = rw i head;
       size = rw i size;
       fits = omega (arith, rw (← i) at length);
+      groups = λ h z. compact-groups (now (a .s)) at i h z;
     }
 
 pub compact-at-spec : {M : Type 1} → statement M

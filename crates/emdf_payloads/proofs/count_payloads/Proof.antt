@@ -5,48 +5,50 @@ use native.Mathlib.Omega.{arith}
 use denote.Ref.{now}
 use Rattle.openjoc_bitio.specs.Cursor.{bitsRemaining}
 use Rattle.emdf_format.specs.Reading.{payloads}
-use Rattle.emdf_payloads.proofs.Turns.{countFrom, count-all, at-end, at-refused, at-payload}
-use Rattle.emdf_payloads.proofs.Walk.{skip-past, skip-end, skip-refused}
+use Rattle.emdf_payloads.proofs.Turns.{countFrom, count-all, More, at-end, at-refused, at-payload}
+use Rattle.emdf_payloads.proofs.Walk.{count-past, count-end, count-refused}
 use Rattle.emdf_payloads.proofs.count_payloads.Statement.{statement}
 use Rattle.emdf_payloads.proofs.count_payloads.Tie as tie
 
 abbrev Inv-loop : tie.InvT-loop
-Inv-loop s count₀ at₀ count at = (count ≤ at .position) × (countFrom count (at .end) (payloads (bitsRemaining s at) s (at .end) (at .position)) ≡ countFrom 0 (at₀ .end) (payloads (bitsRemaining s at₀) s (at₀ .end) (at₀ .position)))
+Inv-loop s count₀ groups₀ at₀ count groups at = (count ≤ at .position) × (countFrom count groups (at .end) (payloads (bitsRemaining s at) s (at .end) (at .position)) ≡ countFrom 0 0 (at₀ .end) (payloads (bitsRemaining s at₀) s (at₀ .end) (at₀ .position)))
 
 abbrev μ-loop : tie.MeasureT-loop
-μ-loop s count₀ at₀ count at = bitsRemaining s at
+μ-loop s count₀ groups₀ at₀ count groups at = bitsRemaining s at
 
 loop-holds : tie.Need-loop-holds Inv-loop μ-loop
 loop-holds c = (omega arith, refl)
 
-skip-payload-requires : tie.Need-skip-payload-requires Inv-loop μ-loop
-skip-payload-requires c κs = tt
+count-payload-requires : tie.Need-count-payload-requires Inv-loop μ-loop
+count-payload-requires c κs = tt
 
 enum-known-step : tie.Need-enum-known-step Inv-loop μ-loop
 enum-known-step c = search needs
 
 add-count : tie.Need-add-count Inv-loop μ-loop
-add-count c = omega (arith, at-payload (c .before .before .before .before .loop .count) (now (c .before .before .before .before .before .before .args .s)) (c .before .before .before .before .loop .at) (skip-past _ (sym (c .before .before .before .skip-payload .ensures) ∙ c .before .step .given .1) .1) .moves)
+add-count c = omega (arith, at-payload (c .before .before .before .before .loop .count) (c .before .before .before .before .loop .groups) (now (c .before .before .before .before .before .before .args .s)) (c .before .before .before .before .loop .at) (count-past _ _ (sym (c .before .before .before .count-payload .ensures) ∙ c .before .step .given .1) .1) .moves)
 
 loop-less : tie.Need-loop-less Inv-loop μ-loop
-loop-less c = at-payload (c .before .before .before .before .loop .count) _ _ (skip-past _ (sym (c .before .before .before .skip-payload .ensures) ∙ c .before .step .given .1) .1) .less
+loop-less c = at-payload (c .before .before .before .before .loop .count) (c .before .before .before .before .loop .groups) _ _ (count-past _ _ (sym (c .before .before .before .count-payload .ensures) ∙ c .before .step .given .1) .1) .less
 
 loop-again : tie.Need-loop-again Inv-loop μ-loop
 loop-again c =
-    let m = at-payload (c .before .before .before .before .loop .count) _ _ (skip-past _ (sym (c .before .before .before .skip-payload .ensures) ∙ c .before .step .given .1) .1) in
-    (omega (arith, m .moves), m .left ∙ c .before .before .before .before .loop .inv .1)
+    let o = c .before .before .before .before .loop in
+    let (r, i, g) = count-past _ _ (sym (c .before .before .before .count-payload .ensures) ∙ c .before .step .given .1) in
+    let m = at-payload (o .count) (o .groups) _ _ i in
+    (omega (arith, m .moves), rw g at (m .left) ∙ o .inv .1)
 
 enum-known-step-2 : tie.Need-enum-known-step-2 Inv-loop μ-loop
 enum-known-step-2 c = search needs
 
 returns : tie.Need-returns Inv-loop μ-loop
-returns c = at-end _ _ _ (skip-end _ (sym (c .before .before .before .skip-payload .ensures) ∙ c .before .step2 .given .1)) ∙ c .before .before .before .before .loop .inv .1 ∙ count-all _ _
+returns c = at-end _ _ _ _ (count-end _ _ (sym (c .before .before .before .count-payload .ensures) ∙ c .before .step2 .given .1)) ∙ c .before .before .before .before .loop .inv .1 ∙ count-all _ _
 
 enum-known-step-3 : tie.Need-enum-known-step-3 Inv-loop μ-loop
 enum-known-step-3 c = search needs
 
 returns-2 : tie.Need-returns-2 Inv-loop μ-loop
-returns-2 c = at-refused _ _ _ (skip-refused _ (sym (c .before .before .before .skip-payload .ensures) ∙ c .before .step3 .given .1)) ∙ c .before .before .before .before .loop .inv .1 ∙ count-all _ _
+returns-2 c = at-refused _ _ _ _ (count-refused _ _ (sym (c .before .before .before .count-payload .ensures) ∙ c .before .step3 .given .1)) ∙ c .before .before .before .before .loop .inv .1 ∙ count-all _ _
 
 pub count-payloads-spec : {M : Type 1} → statement M
 count-payloads-spec =
@@ -55,7 +57,7 @@ count-payloads-spec =
     Inv-loop
     μ-loop
     loop-holds
-    skip-payload-requires
+    count-payload-requires
     enum-known-step
     add-count
     loop-less

@@ -2,6 +2,7 @@ use borrow.Author.Needs.{needs}
 use borrow.Author.Tests.{eq-eqb, ne-eqb}
 use mathlib.Core.Path.{ap, _∙_}
 use native.Mathlib.Omega.{arith}
+use Rattle.emdf_fields.specs.Word.{top}
 use Rattle.emdf_payloads.specs.Compact.{compactStep}
 use Rattle.emdf_payloads.specs.Payloads.{skipOf}
 use Rattle.emdf_payloads.proofs.skip_payload.Statement.{statement}
@@ -24,11 +25,15 @@ add-t11 c = omega (arith, c .before .before .before .compact-at .ensures .fits)
 
 returns-2 : tie.Need-returns-2
 unfolding compactStep skipOf
-returns-2 c = rw (c .before .before .before .before .before .compact-at .ensures .is (omega arith), eq-eqb _ 0 (c .if2 .taken))
+returns-2 c =
+    let d = c .before .before .before .before .before .compact-at in
+    rw (d .ensures .is (omega arith), eq-eqb (top 5 (d .result .word)) 0 (c .if2 .taken))
 
 returns-3 : tie.Need-returns-3
 unfolding compactStep skipOf
-returns-3 c = rw (c .before .before .before .before .before .compact-at .ensures .is (omega arith), ne-eqb _ 0 (c .if2 .left))
+returns-3 c =
+    let d = c .before .before .before .before .before .compact-at in
+    rw (d .ensures .is (omega arith), ne-eqb (top 5 (d .result .word)) 0 (c .if2 .left))
 
 pub skip-payload-spec : {M : Type 1} → statement M
 skip-payload-spec =

@@ -12,8 +12,8 @@ figures-of-requires c κs = search needs
 figure-words-requires : tie.Need-figure-words-requires
 figure-words-requires c κs = search needs
 
-put-nine-requires : tie.Need-put-nine-requires
-put-nine-requires c κs = search needs
+put-reading-requires : tie.Need-put-reading-requires
+put-reading-requires c κs = search needs
 
 returns : tie.Need-returns
 unfolding readReply
@@ -21,7 +21,7 @@ returns c =
     let w = c .before .figure-words .ensures in
     let f = c .before .before .before .figures-of .ensures in
     let e = c .before .before .before .before .records-refusal .ensures in
-    rw (← e, ← f, ← w) (c .put-nine .ensures)
+    rw (← e, ← f, ← w) (c .put-reading .ensures)
 
 pub put-refusal-spec : {M : Type 1} → statement M
-put-refusal-spec = tie.close (tie.spec records-refusal-requires figures-of-requires figure-words-requires put-nine-requires returns)
+put-refusal-spec = tie.close (tie.spec records-refusal-requires figures-of-requires figure-words-requires put-reading-requires returns)

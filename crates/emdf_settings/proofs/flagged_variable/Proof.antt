@@ -30,8 +30,8 @@ returns-2 : tie.Need-returns-2
 unfolding flagged present optionalAnswer give
 returns-2 c = via optionalAnswer _ _ _ _ _ (field-found _ (sym (c .before .before .before .before .read-bits .ensures) ∙ c .before .before .a .given .1)) (that optionalAnswer _ _ _ _ _ _ (T-not-of (ne-eqb _ _ (c .if1 .taken))) refl)
 
-variable-bits-requires : tie.Need-variable-bits-requires
-variable-bits-requires c κs = search needs
+variable-field-requires : tie.Need-variable-field-requires
+variable-field-requires c κs = search needs
 
 enum-known-b : tie.Need-enum-known-b
 enum-known-b c = search needs
@@ -44,11 +44,11 @@ field-error-requires-2 c κs = search needs
 
 returns-3 : tie.Need-returns-3
 unfolding flagged present optionalAnswer give
-returns-3 c = via optionalAnswer _ _ _ _ _ (field-found _ (sym (c .before .before .before .before .before .before .before .before .read-bits .ensures) ∙ c .before .before .before .before .before .before .a .given .1)) (this optionalAnswer _ _ _ _ _ _ (T-of (eq-eqb _ _ (c .before .before .before .before .if1 .left))) (by-field optionalAnswer Refused optional-refuses _ _ _ _ _ (c .before .before .before .variable-bits .ensures) (c .before .enum-told2 .given .1) (c .field-error2 .ensures)))
+returns-3 c = via optionalAnswer _ _ _ _ _ (field-found _ (sym (c .before .before .before .before .before .before .before .before .read-bits .ensures) ∙ c .before .before .before .before .before .before .a .given .1)) (this optionalAnswer _ _ _ _ _ _ (T-of (eq-eqb _ _ (c .before .before .before .before .if1 .left))) (by-field optionalAnswer Refused optional-refuses _ _ _ _ _ (c .before .before .before .variable-field .ensures) (c .before .enum-told2 .given .1) (c .field-error2 .ensures)))
 
 returns-4 : tie.Need-returns-4
 unfolding flagged present optionalAnswer give
-returns-4 c = via optionalAnswer _ _ _ _ _ (field-found _ (sym (c .before .before .before .before .before .before .before .before .read-bits .ensures) ∙ c .before .before .before .before .before .before .a .given .1)) (this optionalAnswer _ _ _ _ _ _ (T-of (eq-eqb _ _ (c .before .before .before .before .if1 .left))) (via optionalAnswer _ _ _ _ _ (field-found _ (sym (c .before .before .before .variable-bits .ensures) ∙ c .before .b .given .1)) refl))
+returns-4 c = via optionalAnswer _ _ _ _ _ (field-found _ (sym (c .before .before .before .before .before .before .before .before .read-bits .ensures) ∙ c .before .before .before .before .before .before .a .given .1)) (this optionalAnswer _ _ _ _ _ _ (T-of (eq-eqb _ _ (c .before .before .before .before .if1 .left))) (via optionalAnswer _ _ _ _ _ (field-found _ (sym (c .before .before .before .variable-field .ensures) ∙ c .before .b .given .1)) refl))
 
 pub flagged-variable-spec : {M : Type 1} → statement M
 flagged-variable-spec =
@@ -60,7 +60,7 @@ flagged-variable-spec =
     field-error-requires
     returns
     returns-2
-    variable-bits-requires
+    variable-field-requires
     enum-known-b
     enum-told-2
     field-error-requires-2

@@ -12,8 +12,8 @@ enum-known-a c = search needs
 parsed-words-requires : tie.Need-parsed-words-requires
 parsed-words-requires c κs = search needs
 
-put-nine-requires : tie.Need-put-nine-requires
-put-nine-requires c κs = search needs
+put-reading-requires : tie.Need-put-reading-requires
+put-reading-requires c κs = search needs
 
 enum-known-a-2 : tie.Need-enum-known-a-2
 enum-known-a-2 c = search needs
@@ -22,7 +22,7 @@ put-refusal-requires : tie.Need-put-refusal-requires
 put-refusal-requires c κs = search needs
 
 returns : tie.Need-returns
-returns c = parsed-answers (c .before .before .before .before .before .before .parse-emdf-sync .ensures) (c .before .before .before .before .a .given .1) (c .put-nine .ensures) (c .before .parsed-words .ensures)
+returns c = parsed-answers (c .before .before .before .before .before .before .parse-emdf-sync .ensures) (c .before .before .before .before .a .given .1) (c .put-reading .ensures) (c .before .parsed-words .ensures)
 
 returns-2 : tie.Need-returns-2
 returns-2 c = refused-answers (c .before .before .before .before .before .parse-emdf-sync .ensures) (c .before .before .before .a2 .given .1) (c .put-refusal .ensures)
@@ -34,7 +34,7 @@ trial-parse-spec =
     parse-emdf-sync-requires
     enum-known-a
     parsed-words-requires
-    put-nine-requires
+    put-reading-requires
     enum-known-a-2
     put-refusal-requires
     returns

@@ -21,8 +21,8 @@ enum-known-a c = search needs
 parsed-words-requires : tie.Need-parsed-words-requires
 parsed-words-requires c κs = search needs
 
-put-nine-requires : tie.Need-put-nine-requires
-put-nine-requires c κs = search needs
+put-reading-requires : tie.Need-put-reading-requires
+put-reading-requires c κs = search needs
 
 enum-known-a-2 : tie.Need-enum-known-a-2
 enum-known-a-2 c = search needs
@@ -38,7 +38,7 @@ returns c =
     let q = c .before .before .before .before .before .before .before .before .before .before .before in
     let rows = q .before .before .table-rows .ensures .0 in
     let h = q .read-table .ensures in
-    let t = traced _ rows (h .0) (c .before .before .before .before .a .given .1) (c .put-nine .ensures) (c .before .parsed-words .ensures) in
+    let t = traced _ rows (h .0) (c .before .before .before .before .a .given .1) (c .put-reading .ensures) (c .before .parsed-words .ensures) in
     (t, rows-told _ _ rows (q .before .blank-record .ensures) (h .1) (c .before .before .before .before .before .before .before .before .put-records .ensures))
 
 same-length-2 : tie.Need-same-length-2
@@ -62,7 +62,7 @@ trial-trace-spec =
     put-records-requires
     enum-known-a
     parsed-words-requires
-    put-nine-requires
+    put-reading-requires
     enum-known-a-2
     put-refusal-requires
     same-length

@@ -4,7 +4,7 @@ use lib.Seq.{length-take-le}
 use denote.Ref.{now}
 use Rattle.openjoc_emdf.specs.Answers.{Opened}
 use Rattle.openjoc_emdf.proofs.Opening.{opened}
-use Rattle.joc_profile.proofs.Pair.{refused-verdict, found-verdict, never-refused}
+use Rattle.joc_profile.proofs.Pair.{refused-verdict, parsed-groups, found-verdict, never-refused}
 use Rattle.joc_profile.proofs.validate_joc_profile_for.Statement.{statement}
 use Rattle.joc_profile.proofs.validate_joc_profile_for.Tie as tie
 
@@ -52,7 +52,7 @@ judge-pair-requires c κs = search needs
 returns-3 : tie.Need-returns-3
 returns-3 c =
     let o = opening (c .before .before .before .before .before .before .before) in
-    found-verdict _ _ (o .is) (c .before .before .before .before .find-pair .ensures (o .container .found) (o .listed)) (c .before .before .pair .given .1) (c .judge-pair .ensures)
+    found-verdict _ _ (o .is) (c .before .before .before .before .find-pair .ensures (o .container .found) (o .listed)) (parsed-groups (o .container) (o .parsed)) (c .before .before .pair .given .1) (c .judge-pair .ensures)
 
 pub validate-joc-profile-for-spec : {M : Type 1} → statement M
 validate-joc-profile-for-spec =

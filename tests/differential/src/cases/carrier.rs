@@ -2,6 +2,7 @@
 
 use crate::case::{write_bytes, ACCEPTED};
 use crate::contents::{Contents, Payload, Settings};
+use crate::groups;
 use std::fmt;
 use std::ops::Range;
 use std::sync::LazyLock;
@@ -48,11 +49,14 @@ pub const B: [u8; 11] = [
 /// A payload of the fewest bits: an id, five flags and the size of an empty body.
 const LEAST_PAYLOAD: usize = 19;
 
+/// The numbers of a reading that the original has too.
+pub const ORIGINAL_WORDS: usize = 9;
+
 /// The numbers of each answer.
-pub const SUMMARY_WORDS: usize = 9;
+pub const SUMMARY_WORDS: usize = ORIGINAL_WORDS + 1;
 pub const CLASS_WORDS: usize = 1 + SUMMARY_WORDS;
 pub const MOVE_WORDS: usize = 2;
-pub const VERDICT_WORDS: usize = 4;
+pub const VERDICT_WORDS: usize = 5;
 pub const EDIT_WORDS: usize = 2;
 pub const CHECK_WORDS: usize = 2;
 pub const RUN_WORDS: usize = 3;
@@ -291,7 +295,7 @@ impl Found {
     }
 }
 
-/// The nine numbers of an accepted reading.
+/// The ten numbers of an accepted reading, the last one by the definition alone.
 #[must_use]
 pub fn summary(consumed: usize, contents: &Contents) -> [u64; SUMMARY_WORDS] {
     let [primary, secondary] = [&contents.primary, &contents.secondary].map(|bytes| {
@@ -305,7 +309,8 @@ pub fn summary(consumed: usize, contents: &Contents) -> [u64; SUMMARY_WORDS] {
     words[1] = contents.key_id;
     words[2] = contents.payloads.len() as u64;
     words[3..6].copy_from_slice(&primary);
-    words[6..].copy_from_slice(&secondary);
+    words[6..ORIGINAL_WORDS].copy_from_slice(&secondary);
+    words[ORIGINAL_WORDS] = groups::largest(contents);
     words
 }
 

@@ -9,8 +9,9 @@ pub const INVALID_BOUNDS: u32 = 5;
 pub const TOO_MANY_GROUPS: u32 = 6;
 pub const VALUE_TOO_LARGE: u32 = 7;
 
-/// The numbers of a bit or field call's answer.
+/// The numbers of a bit call's answer, and of a field call's, which has its groups too.
 pub const BIT_WORDS: usize = 6;
+pub const FIELD_WORDS: usize = BIT_WORDS + 1;
 
 /// The widest read.
 pub const MAX_WIDTH: usize = 64;
@@ -157,17 +158,25 @@ impl Request {
     }
 }
 
-/// What a call returns and the numbers that it writes.
+/// What a call returns and the numbers that it writes; of a bit call the last one is 0.
 #[derive(Clone, Copy, Debug, Eq, PartialEq)]
 pub struct Answer {
     pub number: u32,
-    pub words: [u64; BIT_WORDS],
+    pub words: [u64; FIELD_WORDS],
 }
 
 impl Answer {
     #[must_use]
     pub fn accepted(value: u64, after: Cursor) -> Self {
         Self::with_window(value, after, Cursor::default())
+    }
+
+    /// A field of so many groups.
+    #[must_use]
+    pub fn field(value: u64, groups: u64, after: Cursor) -> Self {
+        let mut answer = Self::accepted(value, after);
+        answer.words[BIT_WORDS] = groups;
+        answer
     }
 
     #[must_use]
@@ -217,7 +226,7 @@ impl Answer {
         let [position, end, from, to] = cursors.map(|bit| bit as u64);
         Self {
             number: ACCEPTED,
-            words: [value, 0, position, end, from, to],
+            words: [value, 0, position, end, from, to, 0],
         }
     }
 
@@ -232,6 +241,7 @@ impl Answer {
                 cursor.end as u64,
                 0,
                 0,
+                0,
             ],
         }
     }
@@ -239,10 +249,11 @@ impl Answer {
 
 impl fmt::Display for Answer {
     fn fmt(&self, formatter: &mut fmt::Formatter<'_>) -> fmt::Result {
-        let [first, second, position, end, from, to] = self.words;
+        let [first, second, position, end, from, to, groups] = self.words;
         write!(
             formatter,
-            "number {}, figures {first} {second}, cursor {position} {end}, window {from} {to}",
+            "number {}, figures {first} {second}, cursor {position} {end}, window {from} {to}, \
+             groups {groups}",
             self.number
         )
     }

@@ -1,6 +1,8 @@
 //! The groups for reading and classifying carriers.
 
-use crate::examine::{Examiner, MALFORMED, NON_EMDF, PARSED, RAREST_SETTINGS, TRAILING_DATA};
+use crate::examine::{
+    Examiner, MALFORMED, NON_EMDF, PARSED, RAREST_FIELD, RAREST_SETTINGS, TRAILING_DATA,
+};
 use crate::report::{Difference, Group, Outcome, Tally};
 use differential::carrier::{
     A, HEADER_CUT, MOST_DECLARED, NO_PRIMARY, NO_SYNC_WORD, PADDING_NOT_ZERO, PADDING_TOO_LONG,
@@ -9,11 +11,12 @@ use differential::carrier::{
 use differential::case::{ACCEPTED, TOO_FEW_BITS, TOO_MANY_GROUPS, VALUE_TOO_LARGE};
 use differential::contents::{Contents, Payload, Settings};
 use differential::damage;
+use differential::groups::FIELDS;
 use differential::options::Length;
 use differential::random::Random;
 use differential::shapes::{
-    self, Numbers, DURATIONS, GROUP_IDS, IDS, KEY_IDS, OFFSETS, PRIMARIES, SECONDARIES, SHAPES,
-    SIZES,
+    self, Numbers, DURATIONS, GROUP_IDS, IDS, KEY_IDS, MOST_DURATION, OFFSETS, PRIMARIES,
+    SECONDARIES, SHAPES, SIZES,
 };
 use differential::wrong;
 
@@ -54,7 +57,7 @@ pub const GROUPS: [Group; 5] = [
             ("parse_emdf_sync_with_bit_trace", ACCEPTED),
             ("parse_emdf_sync_with_bit_trace", TABLE_TOO_SHORT),
         ],
-        marks: &[PARSED, TRAILING_DATA, RAREST_SETTINGS],
+        marks: &[PARSED, TRAILING_DATA, RAREST_SETTINGS, RAREST_FIELD],
         run: written_carriers,
     },
     Group {
@@ -211,6 +214,11 @@ fn written_carriers(
     length: Length,
 ) -> Result<(), Difference> {
     let mut examiner = Examiner::new();
+    for _ in 0..length.rounds(60, 600) {
+        for contents in each_field(random) {
+            written(&contents, &mut examiner, tally, random)?;
+        }
+    }
     for contents in edges(random) {
         written(&contents, &mut examiner, tally, random)?;
     }
@@ -237,6 +245,7 @@ fn written_carriers(
         }
     }
     examiner.mark_settings(tally);
+    examiner.mark_fields(tally);
     Ok(())
 }
 
@@ -255,6 +264,35 @@ fn written(
         examiner.check_with_rule(&carrier, &ruled, tally)?;
     }
     Ok(())
+}
+
+/// Each variable field of more than one group where no other has more than one.
+fn each_field(random: &mut Random) -> [Contents; FIELDS] {
+    let mut all = std::array::from_fn(|_| with_single_groups(random));
+    let [of_key, of_id, of_duration, of_group_id, of_size] = &mut all;
+    let place = random.up_to(1);
+    of_key.key_id = 7 + 8 + (random.word() >> (1 + random.up_to(62)));
+    of_id.payloads[place].id = 31 + 32 + (random.word() >> (1 + random.up_to(62)));
+    let duration = 2_048 + random.up_to(MOST_DURATION as usize - 2_048) as u64;
+    of_duration.payloads[place].settings.duration = Some(duration);
+    let group_id = 4 + (random.word() >> (2 + random.up_to(61)));
+    of_group_id.payloads[place].settings.group_id = Some(group_id);
+    let size = 256 + random.up_to(600);
+    of_size.payloads[place].body = random.bytes(size);
+    all
+}
+
+/// Two payloads, and no field of two groups.
+fn with_single_groups(random: &mut Random) -> Contents {
+    let mut contents = shapes::draw_contents(random, 2, 20);
+    contents.key_id = random.up_to(14) as u64;
+    for payload in &mut contents.payloads {
+        payload.id = 1 + random.up_to(61) as u64;
+        let settings = &mut payload.settings;
+        settings.duration = settings.duration.map(|duration| duration % 2_048);
+        settings.group_id = settings.group_id.map(|group_id| group_id % 4);
+    }
+    contents
 }
 
 /// Every edge value in every combination of settings that has it, and the edges of the rest.

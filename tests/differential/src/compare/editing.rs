@@ -372,7 +372,7 @@ fn difference(edit: &Edit, first: String) -> Difference {
     let (heading, case, said) = if said(&case).is_some() {
         let differs = |case: &EditCase| said(case).is_some();
         let patience = self_check::patience();
-        let case = shrink::smallest_within(patience, case, shrink::smaller_edits, differs);
+        let case = shrink::smallest(patience, case, shrink::smaller_edits, differs);
         let said = said(&case).unwrap_or_default();
         ("difference, shrunk:", case, said)
     } else {

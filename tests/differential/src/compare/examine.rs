@@ -3,11 +3,14 @@
 use crate::guard::Place;
 use crate::lent::Lent;
 use crate::library::{self, Replied};
+use crate::miscounts;
 use crate::reached::Reached;
 use crate::report::{Difference, Tally};
+use crate::self_check;
 use crate::shrink::{self, CarrierCase};
 use differential::carrier::{most_rows, Ask, Asked, Reading, NUMBERS, ROW, ROW_WORDS};
 use differential::facts::{Class, Facts};
+use differential::groups::{self, FIELDS};
 use differential::profile::{self, STRICT};
 use differential::shapes::{self, SHAPES};
 use std::cell::RefCell;
@@ -22,6 +25,9 @@ pub const RAREST_PHASE: &str = "each-phase";
 
 /// How often the rarest combination of settings stood in a row.
 pub const RAREST_SETTINGS: &str = "each-settings";
+
+/// How often the rarest of the variable fields alone had the most groups of a carrier.
+pub const RAREST_FIELD: &str = "each-field";
 
 /// How often a body was chosen in the carrier, in the scratch, and nowhere.
 pub const IN_THE_CARRIER: &str = "in-carrier";
@@ -43,6 +49,7 @@ const TRACED: usize = 61;
 pub struct Examiner {
     desk: Desk,
     settings: [u64; SHAPES],
+    fields: [u64; FIELDS],
     phases: [u64; 8],
     pub reached: Reached,
     /// How many verdicts of compat were asked for.
@@ -57,6 +64,7 @@ impl Examiner {
         Self {
             desk: Desk::new(),
             settings: [0; SHAPES],
+            fields: [0; FIELDS],
             phases: [0; 8],
             reached: Reached::new(),
             turns: 0,
@@ -77,6 +85,7 @@ impl Examiner {
         let facts = Facts::new(bytes);
         tally.mark(class_name(facts.class()));
         self.count_settings(&facts.reading);
+        self.count_field(&facts.reading);
         self.desk.place.put(bytes);
         self.compare(Ask::Classify, bytes, &facts, tally)?;
         let is_traced = self.is_traced(facts.reply(Ask::Read { table: usize::MAX }).number);
@@ -168,6 +177,12 @@ impl Examiner {
         tally.mark_times(RAREST_SETTINGS, rarest);
     }
 
+    /// Marks the rarest field that decided the groups of all carriers so far.
+    pub fn mark_fields(&self, tally: &mut Tally) {
+        let rarest = self.fields.into_iter().min().unwrap_or(0);
+        tally.mark_times(RAREST_FIELD, rarest);
+    }
+
     /// Marks the rarest first bit of all bodies so far.
     pub fn mark_phases(&self, tally: &mut Tally) {
         let rarest = self.phases.into_iter().min().unwrap_or(0);
@@ -185,6 +200,13 @@ impl Examiner {
             for payload in &found.contents.payloads {
                 self.settings[shapes::shape(&payload.settings)] += 1;
             }
+        }
+    }
+
+    fn count_field(&mut self, reading: &Reading) {
+        let found = reading.as_ref().ok();
+        if let Some(field) = found.and_then(|found| groups::deciding(&found.contents)) {
+            self.fields[field as usize] += 1;
         }
     }
 
@@ -283,7 +305,10 @@ impl Desk {
 
 /// What both sides said, where that is not the same in every figure and byte.
 pub fn disagreement(bytes: &[u8], ask: Ask, facts: &Facts, lent: &mut Lent) -> Option<String> {
-    let replied = library::reply(bytes, ask, lent);
+    let replied = match self_check::miscount() {
+        None => library::reply(bytes, ask, lent),
+        Some(miscount) => miscounts::replied(miscount, ask, facts, lent),
+    };
     let written = facts.written(ask);
     if replied.reply == facts.reply(ask) && replied.frame_intact && lent.holds(&written) {
         lent.restore(written.len());
@@ -350,7 +375,9 @@ fn difference(bytes: &[u8], ask: Ask, first: String) -> Difference {
     let desk = RefCell::new(Desk::new());
     let said = |case: &CarrierCase| desk.borrow_mut().disagreement_on(case);
     let (heading, case, said) = if said(&case).is_some() {
-        let case = shrink::smallest(case, shrink::smaller_carriers, |case| said(case).is_some());
+        let patience = self_check::patience();
+        let differs = |case: &CarrierCase| said(case).is_some();
+        let case = shrink::smallest(patience, case, shrink::smaller_carriers, differs);
         let said = said(&case).unwrap_or_default();
         ("difference, shrunk:", case, said)
     } else {

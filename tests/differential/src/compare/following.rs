@@ -268,7 +268,7 @@ fn difference(asked: &Asked, first: String) -> Difference {
     let (heading, case, said) = if said(&case).is_some() {
         let differs = |case: &RecipeCase| said(case).is_some();
         let patience = self_check::patience();
-        let case = shrink::smallest_within(patience, case, shrink::smaller_recipes, differs);
+        let case = shrink::smallest(patience, case, shrink::smaller_recipes, differs);
         let said = said(&case).unwrap_or_default();
         ("difference, shrunk:", case, said)
     } else {

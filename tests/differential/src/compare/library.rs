@@ -10,7 +10,7 @@ use differential::carrier::{
     self, Ask, Asked, Reply, CHECK_WORDS, CLASS_WORDS, EDIT_WORDS, MOVE_WORDS, RUN_WORDS,
     SUMMARY_WORDS, VERDICT_WORDS,
 };
-use differential::case::{Answer, Call, Described, Form, Request, BIT_WORDS};
+use differential::case::{Answer, Call, Described, Form, Request, BIT_WORDS, FIELD_WORDS};
 use differential::plain::Edit;
 use differential::recipe;
 use std::borrow::Cow;
@@ -116,18 +116,25 @@ impl Observed {
 /// On a width above 255, which the library's parameter can't hold.
 #[must_use]
 pub fn answer(input: &Input, request: Request) -> Observed {
+    match request.call {
+        Call::VariableBits => answer_of::<FIELD_WORDS>(input, request),
+        _ => answer_of::<BIT_WORDS>(input, request),
+    }
+}
+
+/// A call whose answer has so many numbers.
+fn answer_of<const WORDS: usize>(input: &Input, request: Request) -> Observed {
     let bytes = input.bytes();
-    let mut frame = Frame::<BIT_WORDS>::EMPTY;
+    let mut frame = Frame::<WORDS>::EMPTY;
     let number = crash::during(&Described { bytes, request }, || match request.form {
         Form::Cursor => call(bytes, request, frame.answer_mut()),
         // SAFETY: the frame has the bytes of an answer.
         Form::Reader => unsafe { trials::reader(bytes, request, frame.answer_mut()) },
     });
+    let mut words = [0; FIELD_WORDS];
+    words[..WORDS].copy_from_slice(&frame.words());
     Observed {
-        answer: Answer {
-            number,
-            words: frame.words(),
-        },
+        answer: Answer { number, words },
         frame_intact: frame.is_intact_around(),
     }
 }

@@ -16,6 +16,7 @@ mod guard;
 mod judge;
 mod lent;
 mod library;
+mod miscounts;
 #[path = "../model/model.rs"]
 mod model;
 mod reached;
@@ -52,6 +53,9 @@ const PARTS: [&[Group]; 10] = [
 /// The parts whose groups have to catch the mistakes of the self-check.
 const PARTS_OF_EDITS: [&[Group]; 3] = [&edits::GROUPS, &edit_lists::GROUPS, &recipes::GROUPS];
 
+/// The parts whose groups have to catch its wrong numbers of groups.
+const PARTS_OF_READINGS: [&[Group]; 3] = [&fields::GROUPS, &carriers::GROUPS, &verdicts::GROUPS];
+
 fn main() -> ExitCode {
     let options = match Options::parse(std::env::args().skip(1)) {
         Ok(options) => options,
@@ -62,7 +66,7 @@ fn main() -> ExitCode {
     };
     crash::watch();
     if options.self_check {
-        return self_check::run(&PARTS_OF_EDITS, &options);
+        return self_check::run(&PARTS_OF_EDITS, &PARTS_OF_READINGS, &options);
     }
     let mut failed = Vec::new();
     for (group, stream) in PARTS.into_iter().flatten().zip(0..) {

@@ -2,6 +2,7 @@
 
 use crate::lent::Lent;
 use crate::library::Replied;
+use crate::miscounts::{self, Miscount};
 use crate::recipe_mistakes::{self, Fault};
 use crate::report::{Difference, Group, Tally};
 use crate::shrink;
@@ -32,6 +33,8 @@ thread_local! {
     static PLAYER: Cell<Option<Player>> = const { Cell::new(None) };
     /// What the one who plays it does wrong with recipes.
     static FAULT: Cell<Option<Fault>> = const { Cell::new(None) };
+    /// How the one who plays it counts groups.
+    static MISCOUNT: Cell<Option<Miscount>> = const { Cell::new(None) };
     /// Whether the player that makes one edit only has made it.
     static MADE_ONE: Cell<bool> = const { Cell::new(false) };
 }
@@ -46,6 +49,12 @@ pub fn player() -> Option<Player> {
 #[must_use]
 pub fn fault() -> Option<Fault> {
     FAULT.get()
+}
+
+/// How groups are counted, if not by the library.
+#[must_use]
+pub fn miscount() -> Option<Miscount> {
+    MISCOUNT.get()
 }
 
 /// How long a difference is shrunk; one that was looked for is not printed.
@@ -339,24 +348,17 @@ const MISTAKES: [Mistake; 32] = [
     },
 ];
 
-/// Runs all groups against plain contents in the library's place, and those named against each mistake.
+/// Runs all groups of edits against plain contents in the library's place, and those named against each mistake; and so the
+/// groups of readings against wrong numbers of groups.
 #[must_use]
-pub fn run(parts: &[&[Group]], options: &Options) -> ExitCode {
-    let groups: Vec<&Group> = parts.iter().copied().flatten().collect();
+pub fn run(edits: &[&[Group]], readings: &[&[Group]], options: &Options) -> ExitCode {
+    let groups: Vec<&Group> = edits.iter().copied().flatten().collect();
+    let readings: Vec<&Group> = readings.iter().copied().flatten().collect();
     let mut failed = false;
     PLAYER.set(Some(faithful));
     FAULT.set(Some(Fault::None));
     for group in &groups {
-        let (tally, difference) = ran(group, options);
-        let too_rare = tally.too_rare();
-        println!("no mistake: {}: {tally}", group.name);
-        if let Some(Difference(said)) = &difference {
-            print!("{said}");
-        }
-        for outcome in &too_rare {
-            println!("  too rare: {outcome}");
-        }
-        failed |= difference.is_some() || !too_rare.is_empty();
+        failed |= !passes(group, options);
     }
     for mistake in &MISTAKES {
         PLAYER.set(Some(mistake.player));
@@ -367,8 +369,17 @@ pub fn run(parts: &[&[Group]], options: &Options) -> ExitCode {
         FAULT.set(Some(mistake.fault));
         failed |= !is_caught(mistake.name, mistake.caught_by, &groups, options);
     }
-    PLAYER.set(None);
     FAULT.set(None);
+    MISCOUNT.set(Some(Miscount::None));
+    for name in miscounts::CATCHING {
+        failed |= !passes(named(name, &readings), options);
+    }
+    for mistake in &miscounts::MISTAKES {
+        MISCOUNT.set(Some(mistake.miscount));
+        failed |= !is_caught(mistake.name, mistake.caught_by, &readings, options);
+    }
+    MISCOUNT.set(None);
+    PLAYER.set(None);
     if failed {
         println!("differential: self-check FAILED");
         ExitCode::FAILURE
@@ -378,12 +389,30 @@ pub fn run(parts: &[&[Group]], options: &Options) -> ExitCode {
     }
 }
 
+/// Runs a group in which no mistake is made.
+fn passes(group: &Group, options: &Options) -> bool {
+    let (tally, difference) = ran(group, options);
+    let too_rare = tally.too_rare();
+    println!("no mistake: {}: {tally}", group.name);
+    if let Some(Difference(said)) = &difference {
+        print!("{said}");
+    }
+    for outcome in &too_rare {
+        println!("  too rare: {outcome}");
+    }
+    difference.is_none() && too_rare.is_empty()
+}
+
+fn named<'a>(name: &str, groups: &[&'a Group]) -> &'a Group {
+    let group = groups.iter().copied().find(|group| group.name == name);
+    group.expect("a group of this name")
+}
+
 /// Runs the groups of these names against the mistake that is now made.
 fn is_caught(mistake: &str, names: &[&str], groups: &[&Group], options: &Options) -> bool {
     let mut is_caught = true;
     for name in names {
-        let group = groups.iter().find(|group| group.name == *name);
-        let (tally, difference) = ran(group.expect("a group of this name"), options);
+        let (tally, difference) = ran(named(name, groups), options);
         let said = match difference {
             Some(_) => "caught",
             None => "NOT CAUGHT",

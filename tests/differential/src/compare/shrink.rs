@@ -15,13 +15,8 @@ pub const PATIENCE: Duration = Duration::from_secs(20);
 /// Cases that are smaller in one respect and larger in none.
 pub type Smaller<'a, T> = Box<dyn Iterator<Item = T> + 'a>;
 
-/// Steps from a failing case to a smaller one that fails, until there is none.
-pub fn smallest<T>(failing: T, smaller: fn(&T) -> Smaller<'_, T>, fails: impl Fn(&T) -> bool) -> T {
-    smallest_within(PATIENCE, failing, smaller, fails)
-}
-
-/// The same, for as long as this.
-pub fn smallest_within<T>(
+/// Steps from a failing case to a smaller one that fails, until there is none, for as long as this.
+pub fn smallest<T>(
     patience: Duration,
     mut failing: T,
     smaller: fn(&T) -> Smaller<'_, T>,

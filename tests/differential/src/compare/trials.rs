@@ -46,7 +46,7 @@ extern "C" {
 ///
 /// # Safety
 ///
-/// The answer has 48 bytes.
+/// The answer has the bytes of a bit call's.
 pub unsafe fn reader(bytes: &[u8], request: Request, answer: *mut u8) -> u32 {
     let (start, length) = (bytes.as_ptr(), bytes.len());
     let (position, end) = (request.cursor.position, request.cursor.end);
@@ -63,7 +63,7 @@ pub unsafe fn reader(bytes: &[u8], request: Request, answer: *mut u8) -> u32 {
 ///
 /// # Safety
 ///
-/// The answer has 72 bytes.
+/// The answer has the bytes of a reading's.
 pub unsafe fn parse(bytes: &[u8], answer: *mut u8) -> u32 {
     // SAFETY: the slice is alive, and the rest is the caller's promise.
     unsafe { trial_parse(bytes.as_ptr(), bytes.len(), answer) }
@@ -73,7 +73,7 @@ pub unsafe fn parse(bytes: &[u8], answer: *mut u8) -> u32 {
 ///
 /// # Safety
 ///
-/// The table has its length in bytes, and the answer 72.
+/// The table has its length in bytes, and the answer those of a reading's.
 pub unsafe fn trace(bytes: &[u8], (table, room): (*mut u8, usize), answer: *mut u8) -> u32 {
     // SAFETY: the slice is alive, and the rest is the caller's promise.
     unsafe { trial_trace(bytes.as_ptr(), bytes.len(), table, room, answer) }
@@ -100,7 +100,7 @@ pub unsafe fn choose_body(
 ///
 /// # Safety
 ///
-/// The answer has 32 bytes.
+/// The answer has the bytes of a verdict's.
 pub unsafe fn verdict(bytes: &[u8], answer: *mut u8) -> u32 {
     // SAFETY: the slice is alive, and the rest is the caller's promise.
     unsafe { trial_verdict(bytes.as_ptr(), bytes.len(), answer) }

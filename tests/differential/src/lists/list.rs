@@ -1,6 +1,6 @@
 //! Prints the fixed list of the original's answers that the replay program goes through.
 
-use differential::case::{Answer, Call, Cursor, Request};
+use differential::case::{Answer, Call, Cursor, Request, BIT_WORDS};
 use differential::draw;
 use differential::options::Options;
 use differential::oracle;
@@ -52,7 +52,7 @@ impl List {
             .map(|&byte| u64::from(byte))
             .chain(arguments)
             .chain([u64::from(answer.number)])
-            .chain(answer.words);
+            .chain(answer.words[..BIT_WORDS].iter().copied());
         for number in numbers {
             write!(self.lines, " {number}").expect("a string grows");
         }

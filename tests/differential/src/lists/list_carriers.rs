@@ -1,6 +1,6 @@
 //! Prints the fixed list of carriers with the original's readings for the replay program.
 
-use differential::carrier::{A, B};
+use differential::carrier::{A, B, ORIGINAL_WORDS};
 use differential::contents::Contents;
 use differential::damage;
 use differential::facts;
@@ -77,10 +77,13 @@ struct List {
 impl List {
     fn add(&mut self, carrier: &[u8]) {
         let (number, words, rows) = match facts::reading(carrier) {
-            Ok(found) => (0, found.summary().to_vec(), found.rows().collect()),
+            Ok(found) => {
+                let words = found.summary()[..ORIGINAL_WORDS].to_vec();
+                (0, words, found.rows().collect())
+            }
             Err(refusal) => {
-                let reply = refusal.reply();
-                (refusal.number, reply.words[..9].to_vec(), Vec::new())
+                let words = refusal.reply().words[..ORIGINAL_WORDS].to_vec();
+                (refusal.number, words, Vec::new())
             }
         };
         write!(self.lines, "{}", carrier.len()).expect("a string grows");

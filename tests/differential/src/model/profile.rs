@@ -2,6 +2,7 @@
 
 use crate::carrier::{Reading, Reply, NOT_ONE_OF_EACH, PROFILE_NOT_MET};
 use crate::contents::{Contents, Settings};
+use crate::groups;
 
 pub const OAMD: u64 = 11;
 pub const JOC: u64 = 14;
@@ -65,7 +66,9 @@ fn verdict_on(contents: &Contents, profile: u32) -> Reply {
         return Reply::new(PROFILE_NOT_MET, &figures);
     }
     let any = u64::from(marks != 0);
-    Reply::accepted(&[*oamd as u64, *joc as u64, u64::from(marks), any])
+    let [oamd, joc] = [*oamd, *joc].map(|place| place as u64);
+    let groups = groups::largest(contents);
+    Reply::accepted(&[oamd, joc, u64::from(marks), any, groups])
 }
 
 fn places(contents: &Contents, id: u64) -> Vec<usize> {

@@ -40,7 +40,7 @@ impl Written {
             Answer::value_too_large(after(small))
         } else {
             let value = u64::try_from(self.value).expect("small in all its groups");
-            Answer::accepted(value, after(small))
+            Answer::field(value, u64::from(small), after(small))
         }
     }
 

@@ -3,10 +3,12 @@
 use crate::carrier::{
     noise, summary, Ask, Found, Reading, Refusal, Reply, Spans, BLANK_ROW, HEADER, HEADER_CUT,
     MOST_RECORDS, NO_PRIMARY, NO_SUCH_PLACE, NO_SYNC_WORD, PADDING_NOT_ZERO, PADDING_TOO_LONG,
-    RESERVED_NOT_ZERO, ROW, SCRATCH_TOO_SHORT, TABLE_TOO_SHORT, TRUNCATED, VERSION_NOT_ZERO,
+    RESERVED_NOT_ZERO, ROW, SCRATCH_TOO_SHORT, TABLE_TOO_SHORT, TRUNCATED, VERDICT_WORDS,
+    VERSION_NOT_ZERO,
 };
-use crate::case::{TOO_FEW_BITS, TOO_MANY_GROUPS, VALUE_TOO_LARGE};
+use crate::case::{ACCEPTED, TOO_FEW_BITS, TOO_MANY_GROUPS, VALUE_TOO_LARGE};
 use crate::contents::{Contents, Payload, Settings};
+use crate::groups;
 use crate::profile::STRICT;
 use crate::verdict::Verdicts;
 use openjoc_bitio::BitError;
@@ -71,8 +73,10 @@ impl<'a> Facts<'a> {
             Ask::Classify => self.classification().1,
             Ask::Read { table } => self.reading_reply(table),
             Ask::MoveBody { place, scratch } => self.body_reply(place, scratch),
-            Ask::Verdict { profile: STRICT } | Ask::StrictVerdict => self.verdicts.strict,
-            Ask::Verdict { .. } => self.verdicts.compat,
+            Ask::Verdict { profile: STRICT } | Ask::StrictVerdict => {
+                self.with_groups(self.verdicts.strict)
+            }
+            Ask::Verdict { .. } => self.with_groups(self.verdicts.compat),
             Ask::Parse => self.parsed_reply(),
             Ask::Trace { table } => self.reading_reply(ROW * lent_records(table)),
             Ask::ChooseBody { .. } => Reply::accepted(&[self.chosen(ask).len() as u64]),
@@ -147,6 +151,14 @@ impl<'a> Facts<'a> {
             Ok(found) => found.rows().flatten().flat_map(u64::to_be_bytes).collect(),
             Err(_) => Vec::new(),
         })
+    }
+
+    /// The original's verdict, and where it accepts, what the definition says of the groups.
+    fn with_groups(&self, mut verdict: Reply) -> Reply {
+        if let (Ok(found), ACCEPTED) = (&self.reading, verdict.number) {
+            verdict.words[VERDICT_WORDS - 1] = groups::largest(&found.contents);
+        }
+        verdict
     }
 
     /// From the original's call that reads without a trace.

@@ -1,6 +1,7 @@
 //! The Rust side: the original's reader, its answers told in the library's figures.
 
 use crate::case::{Answer, Call, Cursor, Request};
+use crate::groups;
 use openjoc_bitio::{BitError, BitRead, BitReader};
 use openjoc_emdf::EmdfError;
 
@@ -85,7 +86,8 @@ impl<'a> Reader<'a> {
 
     fn field(&mut self, width: u8, limit: u8) -> Answer {
         match openjoc_emdf::variable_bits(&mut self.bits, width, limit) {
-            Ok(value) => Answer::accepted(value, self.cursor()),
+            // The original doesn't say how many groups they are.
+            Ok(value) => Answer::field(value, groups::groups(width, value), self.cursor()),
             Err(EmdfError::Bit(error)) => self.refusal(error),
             Err(EmdfError::InvalidVariableBits { width, max_groups }) => {
                 Answer::invalid_bounds(width, max_groups, self.cursor())

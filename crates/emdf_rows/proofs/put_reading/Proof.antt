@@ -1,8 +1,8 @@
 use borrow.Author.Needs.{needs}
 use mathlib.Core.Path.{refl, _∙_}
 use Rattle.emdf_rows.proofs.Stored.{words-whole}
-use Rattle.emdf_rows.proofs.put_nine.Statement.{statement}
-use Rattle.emdf_rows.proofs.put_nine.Tie as tie
+use Rattle.emdf_rows.proofs.put_reading.Statement.{statement}
+use Rattle.emdf_rows.proofs.put_reading.Tie as tie
 
 slice-aggregate-put-words : tie.Need-slice-aggregate-put-words
 slice-aggregate-put-words c = search needs
@@ -13,5 +13,5 @@ put-words-requires c κs = search needs
 returns : tie.Need-returns
 returns c = (refl, c .put-words .ensures ∙ words-whole _ _ (search needs))
 
-pub put-nine-spec : {M : Type 1} → statement M
-put-nine-spec = tie.close (tie.spec slice-aggregate-put-words put-words-requires returns)
+pub put-reading-spec : {M : Type 1} → statement M
+put-reading-spec = tie.close (tie.spec slice-aggregate-put-words put-words-requires returns)
