@@ -15,7 +15,7 @@ ghost use Rattle.emdf_container.specs.Container.{protectionBytes, bytesA
 use emdf_fields::CountAnswer;
 use emdf_fields::FieldAnswer;
 use emdf_format::EmdfError;
-use emdf_payloads::ListAnswer;
+use emdf_payload_list::ListAnswer;
 use openjoc_bitio::BitCursor;
 use openjoc_bitio::BitsAnswer;
 use openjoc_bitio::ByteCount;
@@ -290,9 +290,9 @@ fn container_by_fields(s: &[u8], c: BitCursor) -> ContainerAnswer
 fn parse_payloads(s: &[u8], c: BitCursor, key: u64) -> ContainerAnswer
     ensures { λ r. ⌜ r ≡ containerAnswer (c .end) (containerAfter key (now (s .entry)) (c .end) (c .position)) ⌝ }
 {
-    let a = emdf_payloads::count_payloads(s, c);
+    let a = emdf_payload_list::count_payloads(s, c);
     let ListAnswer::List(count, most, c1) = a else {
-        return ContainerAnswer::Refused(emdf_payloads::list_error(a));
+        return ContainerAnswer::Refused(emdf_payload_list::list_error(a));
     };
     let groups = emdf_measure::extended_groups(3, 7, key);
     container_end(s, c1, key, count, emdf_measure::larger(groups, most))

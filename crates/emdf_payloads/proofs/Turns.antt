@@ -1,38 +1,31 @@
 -- One turn of a loop over the payloads, and what it says of all of them. Assumes nothing.
-use mathlib.Core.Path.{_≡_, refl, sym, ap, _∙_}
+use mathlib.Core.Path.{_≡_, sym, ap, _∙_}
 use mathlib.Core.List.{List, [], _∷_}
-use Prim.Native.Nat.{ℕ, suc, _+_, _-_, _≤_, _<_}
+use Prim.Native.Nat.{ℕ, suc, _-_, _≤_, _<_}
 use native.Mathlib.Omega.{arith}
-use native.Mathlib.Nat.{add-zero}
-use lib.ListN.{length}
 use Rattle.openjoc_bitio.specs.Cursor.{bitsRemaining}
 use Rattle.openjoc_bitio.specs.declared.BitCursor.{BitCursor}
-use Rattle.emdf_format.specs.Reader.{Read, got, refused, Reader, andThen, _>>=_, give, cursorAt}
-use Rattle.emdf_format.specs.Syntax.{extendedField}
-use Rattle.emdf_format.specs.Reading.{Found as Payload, payloads, payloadOf, payloadsOf}
-use Rattle.emdf_format.specs.Groups.{larger, payloadGroups, payloadsGroups}
+use Rattle.emdf_format.specs.Reader.{Read, got, refused, Reader, _>>=_, give, cursorAt}
+use Rattle.emdf_format.specs.Reading.{Found as Payload, payloads}
 use Rattle.emdf_format.specs.declared.EmdfError.{EmdfError}
 use Rattle.emdf_format.specs.declared.PayloadRecord.{PayloadRecord}
-use Rattle.emdf_format.proofs.Standing.{Stands, bitLimit, remaining-limit, taken, chosen, bind-inv, bind-go, bind-no, bind-assoc, bind-same, choose-inv, choose-bind, choose-same, give-inv, give-bind, stands-in}
-use Rattle.emdf_format.proofs.Payloads.{at-inv, id-law, after-sound}
-use Rattle.emdf_format.proofs.Groups.{size-groups, larger-left, larger-zero, larger-assoc}
+use Rattle.emdf_format.proofs.Standing.{bitLimit, remaining-limit, taken, chosen, bind-inv, bind-assoc, bind-same, choose-inv, choose-bind, choose-same, give-inv, give-bind, stands-in}
+use Rattle.emdf_format.proofs.Payloads.{at-inv, id-law}
 use Rattle.emdf_format.proofs.Lengths.{length-extended}
 use Rattle.emdf_format.proofs.Loops.{payloads-enough, after-moves, id-moves}
-use Rattle.emdf_payloads.specs.Payloads.{NextPayload, ended, found, nextPayload, nextStep, nextAnswer, recordGroups, listAnswer}
+use Rattle.emdf_payloads.specs.Payloads.{NextPayload, ended, found, nextPayload, nextStep, nextAnswer}
 use Rattle.emdf_payloads.specs.declared.PayloadStep.the-variants as PayloadStep
-use Rattle.emdf_payloads.specs.declared.ListAnswer.{ListAnswer}
-use Rattle.emdf_payloads.specs.declared.ListAnswer.the-variants as ListAnswer
 use Rattle.emdf_fields.proofs.Answers.{Found}
 
 -- ---- what a turn's answer says
 
-ended-is : {e : ℕ} (y : Read NextPayload) {c : BitCursor} → nextAnswer e y ≡ PayloadStep.End c → Found y e ended c
+pub ended-is : {e : ℕ} (y : Read NextPayload) {c : BitCursor} → nextAnswer e y ≡ PayloadStep.End c → Found y e ended c
 unfolding nextAnswer nextStep
 ended-is {e} (got ended q) {c} h = let b : cursorAt e q ≡ c = cc in record { is = rw (← b); end = rw (← b) }
 ended-is (got (found x) q) h = absurd (let w : _≡_ {A = ℕ} 0 1 = cc in omega arith)
 ended-is (refused why q) h = absurd (let w : _≡_ {A = ℕ} 0 1 = cc in omega arith)
 
-found-is : (e : ℕ) (y : Read NextPayload) {r : PayloadRecord} {c : BitCursor} → nextAnswer e y ≡ PayloadStep.Payload r c → (x : Payload) × (x .record-of ≡ r) × Found y e (found x) c
+pub found-is : (e : ℕ) (y : Read NextPayload) {r : PayloadRecord} {c : BitCursor} → nextAnswer e y ≡ PayloadStep.Payload r c → (x : Payload) × (x .record-of ≡ r) × Found y e (found x) c
 unfolding nextAnswer nextStep
 found-is e (got ended q) h = absurd (let w : _≡_ {A = ℕ} 0 1 = cc in omega arith)
 found-is e (got (found x) q) {r} {c} h =
@@ -41,7 +34,7 @@ found-is e (got (found x) q) {r} {c} h =
     (x, a, record { is = rw (← b); end = rw (← b) })
 found-is e (refused why q) h = absurd (let w : _≡_ {A = ℕ} 0 1 = cc in omega arith)
 
-refused-is : (e : ℕ) (y : Read NextPayload) {why : EmdfError} → nextAnswer e y ≡ PayloadStep.Refused why → (q : ℕ) × (y ≡ refused why q)
+pub refused-is : (e : ℕ) (y : Read NextPayload) {why : EmdfError} → nextAnswer e y ≡ PayloadStep.Refused why → (q : ℕ) × (y ≡ refused why q)
 unfolding nextAnswer nextStep
 refused-is e (got ended q) h = absurd (let w : _≡_ {A = ℕ} 0 1 = cc in omega arith)
 refused-is e (got (found x) q) h = absurd (let w : _≡_ {A = ℕ} 0 1 = cc in omega arith)
@@ -64,21 +57,6 @@ moves s e p q x h =
     let l : p₁ ≤ bitLimit s e = stands-in (id-law .sound h₁ .0) (omega (arith, length-extended 5 id)) in
     (omega (arith, z .to, d .to), omega (arith, z .to))
 
--- its record says how many groups it has
-record-groups : (s : List ℕ) (e p q : ℕ) (x : Payload) → nextPayload s e p ≡ got (found x) q → recordGroups (x .record-of) ≡ payloadGroups (payloadOf x)
-unfolding nextPayload recordGroups payloadGroups
-record-groups s e p q x h =
-    taken (bind-inv h) λ p₀ q₀ h₀ t₀.
-    let z = at-inv h₀ in
-    taken (bind-inv t₀) λ id p₁ h₁ t₁.
-    chosen (choose-inv t₁)
-    (λ y t₂. let d = give-inv t₂ in absurd (let w : _≡_ {A = ℕ} 0 1 = cc (d .what) in omega arith))
-    λ y t₂.
-    taken (bind-inv t₂) λ x′ p₂ h₂ t₃.
-    let a : x′ ≡ x = cc (give-inv t₃ .what) in
-    let i : Stands s e p₀ p₁ (extendedField 5 id) = rw (← z .is, z .to) (id-law .sound h₁ .0) in
-    rw (size-groups ((rw a at (after-sound p₀ id h₂)) .spans i))
-
 -- ---- the list is a turn, and then what it says
 
 unfoldable pub rest : ℕ → NextPayload → Reader (List Payload)
@@ -97,72 +75,28 @@ payloads-turn n s e p =
     bind-assoc _ _ (rest n) s e q
     ∙ bind-same _ _ _ s e q (λ x q. give-bind (found x) (rest n) s e q)))))
 
--- how many payloads there are and their largest groups, k of them counted already, with most
-unfoldable pub countFrom : ℕ → ℕ → ℕ → Read (List Payload) → ListAnswer
-countFrom k most e (got xs q) = ListAnswer.List (k + length xs) (larger most (payloadsGroups (payloadsOf xs))) (cursorAt e q)
-countFrom k most e (refused why q) = ListAnswer.Refused why
-
-pub count-all : (e : ℕ) (y : Read (List Payload)) → countFrom 0 0 e y ≡ listAnswer e y
-unfolding countFrom listAnswer
-count-all e (got xs q) = let z : 0 + length xs ≡ length xs = omega arith in rw (z, larger-zero)
-count-all e (refused why q) = refl
-
-counted-more : (k most e : ℕ) (x : Payload) (y : Read (List Payload)) → countFrom (k + 1) (larger most (payloadGroups (payloadOf x))) e y ≡ countFrom k most e (andThen y (λ xs q. got (x ∷ xs) q))
-unfolding countFrom andThen payloadsOf payloadsGroups
-counted-more k most e x (got xs q) =
-    let z : k + 1 + length xs ≡ k + suc (length xs) = omega arith in
-    rw (z, larger-assoc most (payloadGroups (payloadOf x)) (payloadsGroups (payloadsOf xs)))
-counted-more k most e x (refused why q) = refl
-
-counted-rest : (k most : ℕ) (s : List ℕ) (n m e : ℕ) (c : BitCursor) (x : Payload) → c .end ≡ e → bitLimit s (c .end) - c .position ≤ n → bitLimit s e - c .position ≤ m
-    → countFrom (k + 1) (larger most (payloadGroups (payloadOf x))) (c .end) (payloads n s (c .end) (c .position)) ≡ countFrom k most e (rest m (found x) s e (c .position))
-unfolding rest _>>=_ give
-counted-rest k most s n m e c x h a b =
-    let a′ : bitLimit s e - c .position ≤ n = rw h at a in
-    rw (h, payloads-enough n m s e (c .position) a′ b) (counted-more k most e x (payloads m s e (c .position)))
-
-module _ (k most : ℕ) (s : List ℕ) (at : BitCursor) where
+module _ (s : List ℕ) (at : BitCursor) where
   abbrev e : ℕ
   e = at .end
 
   abbrev p : ℕ
   p = at .position
 
-  -- all that is left to count
-  abbrev pub left : ListAnswer
-  left = countFrom k most e (payloads (bitsRemaining s at) s e p)
-
-  enough : payloads (bitsRemaining s at) s e p ≡ (nextPayload >>= rest (bitsRemaining s at)) s e p
+  pub enough : payloads (bitsRemaining s at) s e p ≡ (nextPayload >>= rest (bitsRemaining s at)) s e p
   enough =
       let l : bitLimit s e - p ≤ bitsRemaining s at = omega (arith, remaining-limit s e p) in
       payloads-enough (bitsRemaining s at) (suc (bitsRemaining s at)) s e p l (omega arith) ∙ payloads-turn (bitsRemaining s at) s e p
 
-  pub at-end : {c : BitCursor} → nextAnswer e (nextPayload s e p) ≡ PayloadStep.End c → ListAnswer.List k most c ≡ left
-  unfolding countFrom rest give payloadsOf payloadsGroups
-  at-end h =
-      let d = ended-is (nextPayload s e p) h in
-      rw (enough, bind-go nextPayload (rest (bitsRemaining s at)) (d .is) refl, add-zero, larger-left most 0 (omega arith), ← d .end)
-
-  pub at-refused : {why : EmdfError} → nextAnswer e (nextPayload s e p) ≡ PayloadStep.Refused why → ListAnswer.Refused why ≡ left
-  unfolding countFrom
-  at-refused h = let d = refused-is e (nextPayload s e p) h in rw (enough, bind-no nextPayload (rest (bitsRemaining s at)) (d .1))
-
-  pub record More (r : PayloadRecord) (c : BitCursor) : Type 0 where
-    pub left : countFrom (k + 1) (larger most (recordGroups r)) (c .end) (payloads (bitsRemaining s c) s (c .end) (c .position)) ≡ left
+  -- past a payload there are fewer bits
+  pub record Onward (c : BitCursor) : Type 0 where
     pub moves : p < c .position
     pub less : bitsRemaining s c < bitsRemaining s at
 
-  pub at-payload : {r : PayloadRecord} {c : BitCursor} → nextAnswer e (nextPayload s e p) ≡ PayloadStep.Payload r c → More r c
-  unfolding rest
+  pub at-payload : {r : PayloadRecord} {c : BitCursor} → nextAnswer e (nextPayload s e p) ≡ PayloadStep.Payload r c → Onward c
   at-payload {r} {c} h =
       let (x, i, d) = found-is e (nextPayload s e p) h in
       let m = moves s e p (c .position) x (d .is) in
-      let g : recordGroups r ≡ payloadGroups (payloadOf x) = ap recordGroups (sym i) ∙ record-groups s e p (c .position) x (d .is) in
       let a : bitsRemaining s at ≡ bitLimit s e - p = remaining-limit s e p in
       let b : bitsRemaining s c ≡ bitLimit s (c .end) - c .position = remaining-limit s (c .end) (c .position) in
       let b′ : bitsRemaining s c ≡ bitLimit s e - c .position = b ∙ ap (λ (x : ℕ). bitLimit s x - c .position) (d .end) in
-      record {
-        left = rw (g, enough, bind-go nextPayload (rest (bitsRemaining s at)) (d .is) refl) (counted-rest k most s (bitsRemaining s c) (bitsRemaining s at) e c x (d .end) (omega (arith, b)) (omega (arith, b′, a, m)));
-        moves = m .0;
-        less = omega (arith, m);
-      }
+      record { moves = m .0; less = omega (arith, m) }

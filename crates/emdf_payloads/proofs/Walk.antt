@@ -8,13 +8,11 @@ use Rattle.emdf_format.specs.Reader.{got, cursorAt}
 use Rattle.emdf_format.specs.declared.EmdfError.{EmdfError}
 use Rattle.emdf_format.specs.declared.PayloadRecord.{PayloadRecord}
 use Rattle.emdf_format.specs.Reading.{Found, payloads}
-use Rattle.emdf_format.specs.Groups.{larger}
 use Rattle.emdf_format.proofs.Standing.{taken, bind-inv, ask-inv, asked, give-inv}
-use Rattle.emdf_payloads.specs.Payloads.{NextPayload, ended, found, nextPayload, nextStep, nextAnswer, skipOf, recordGroups, countOf, Listed, stepAt}
+use Rattle.emdf_payloads.specs.Payloads.{NextPayload, ended, found, nextPayload, nextStep, nextAnswer, skipOf, Listed, stepAt}
 use Rattle.emdf_payloads.specs.declared.PayloadStep.{PayloadStep}
 use Rattle.emdf_payloads.specs.declared.PayloadStep.the-variants as PayloadStep
 use Rattle.emdf_payloads.specs.declared.SkipStep.the-variants as SkipStep
-use Rattle.emdf_payloads.specs.declared.CountStep.the-variants as CountStep
 use Rattle.emdf_payloads.proofs.Turns.{rest, payloads-turn, moves}
 
 -- the payload x, and after it the payloads xs, from the cursor next on
@@ -112,23 +110,3 @@ unfolding skipOf
 skip-refused (PayloadStep.Payload r c) h = absurd (let w : _≡_ {A = ℕ} 0 1 = cc in omega arith)
 skip-refused (PayloadStep.End c) h = absurd (let w : _≡_ {A = ℕ} 0 1 = cc in omega arith)
 skip-refused (PayloadStep.Refused why) h = cc
-
--- ---- and what counting says of it
-
-pub count-past : (most : ℕ) {more : ℕ} {next : BitCursor} (x : PayloadStep) → countOf most x ≡ CountStep.Past more next → (r : PayloadRecord) × (x ≡ PayloadStep.Payload r next) × (larger most (recordGroups r) ≡ more)
-unfolding countOf
-count-past most (PayloadStep.Payload r c) h = (r, cc, cc)
-count-past most (PayloadStep.End c) h = absurd (let w : _≡_ {A = ℕ} 0 1 = cc in omega arith)
-count-past most (PayloadStep.Refused why) h = absurd (let w : _≡_ {A = ℕ} 0 1 = cc in omega arith)
-
-pub count-end : (most : ℕ) {next : BitCursor} (x : PayloadStep) → countOf most x ≡ CountStep.End next → x ≡ PayloadStep.End next
-unfolding countOf
-count-end most (PayloadStep.Payload r c) h = absurd (let w : _≡_ {A = ℕ} 0 1 = cc in omega arith)
-count-end most (PayloadStep.End c) h = cc
-count-end most (PayloadStep.Refused why) h = absurd (let w : _≡_ {A = ℕ} 0 1 = cc in omega arith)
-
-pub count-refused : (most : ℕ) {why : EmdfError} (x : PayloadStep) → countOf most x ≡ CountStep.Refused why → x ≡ PayloadStep.Refused why
-unfolding countOf
-count-refused most (PayloadStep.Payload r c) h = absurd (let w : _≡_ {A = ℕ} 0 1 = cc in omega arith)
-count-refused most (PayloadStep.End c) h = absurd (let w : _≡_ {A = ℕ} 0 1 = cc in omega arith)
-count-refused most (PayloadStep.Refused why) h = cc

@@ -2,23 +2,17 @@
 use mathlib.Core.List.{List}
 use mathlib.Core.Path.{_≡_}
 use Prim.Native.Nat.{ℕ, _-_, _/_}
-use lib.ListN.{length}
 use lib.Dec.{eqb}
 use Rattle.openjoc_bitio.specs.declared.BitCursor.{BitCursor}
 use Rattle.emdf_format.specs.Reader.{Read, got, refused, Reader, _>>=_, give, choose, cursorAt, position, extendedValue}
-use Rattle.emdf_format.specs.Reading.{Found, payloadAfter, payloads, payloadsOf}
+use Rattle.emdf_format.specs.Reading.{Found, payloadAfter, payloads}
 use Rattle.emdf_format.specs.Syntax.{extendedGroups}
-use Rattle.emdf_format.specs.Groups.{larger, configGroups, payloadsGroups}
-use Rattle.emdf_format.specs.declared.EmdfError.{EmdfError}
+use Rattle.emdf_format.specs.Groups.{larger, configGroups}
 use Rattle.emdf_format.specs.declared.PayloadRecord.{PayloadRecord}
 use Rattle.emdf_payloads.specs.declared.PayloadStep.{PayloadStep}
 use Rattle.emdf_payloads.specs.declared.PayloadStep.the-variants as PayloadStep
 use Rattle.emdf_payloads.specs.declared.SkipStep.{SkipStep}
 use Rattle.emdf_payloads.specs.declared.SkipStep.the-variants as SkipStep
-use Rattle.emdf_payloads.specs.declared.CountStep.{CountStep}
-use Rattle.emdf_payloads.specs.declared.CountStep.the-variants as CountStep
-use Rattle.emdf_payloads.specs.declared.ListAnswer.{ListAnswer}
-use Rattle.emdf_payloads.specs.declared.ListAnswer.the-variants as ListAnswer
 
 unfoldable pub payloadAnswer : ℕ → Read Found → PayloadStep
 payloadAnswer e (got x q) = PayloadStep.Payload (x .record-of) (cursorAt e q)
@@ -53,27 +47,10 @@ skipOf (PayloadStep.Payload r c) = SkipStep.Past (r .id) c
 skipOf (PayloadStep.End c) = SkipStep.End c
 skipOf (PayloadStep.Refused why) = SkipStep.Refused why
 
--- ---- how many payloads there are, and the largest number of groups in them
-
--- of a payload by its record: a group of its size takes 9 bits
+-- the largest number of groups in a payload, by its record: a group of its size takes 9 bits
 unfoldable pub recordGroups : PayloadRecord → ℕ
 recordGroups r =
     larger (larger (extendedGroups 5 (r .id)) (configGroups (r .config))) ((r .trace .«payload_size_end_bit» .0 - r .trace .«payload_size_start_bit» .0) / 9)
-
--- a payload that is passed, with the larger of a number of groups and its own
-unfoldable pub countOf : ℕ → PayloadStep → CountStep
-countOf most (PayloadStep.Payload r c) = CountStep.Past (larger most (recordGroups r)) c
-countOf most (PayloadStep.End c) = CountStep.End c
-countOf most (PayloadStep.Refused why) = CountStep.Refused why
-
-unfoldable pub listAnswer : ℕ → Read (List Found) → ListAnswer
-listAnswer e (got xs q) = ListAnswer.List (length xs) (payloadsGroups (payloadsOf xs)) (cursorAt e q)
-listAnswer e (refused why q) = ListAnswer.Refused why
-
--- r is why an answer is refused; of an accepted one nothing is said
-abbrev pub listError : ListAnswer → EmdfError → EmdfError
-listError (ListAnswer.List n m c) r = r
-listError (ListAnswer.Refused why) r = why
 
 -- from the cursor c on, the payloads xs and then the end of the list
 pub record Listed (s : List ℕ) (c : BitCursor) (xs : List Found) : Type 0 where

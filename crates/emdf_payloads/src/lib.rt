@@ -1,13 +1,12 @@
 // Payloads one after another. Each function answers what its definition in emdf_format says; a compact payload is read from words.
 ghost use mathlib.Core.Path.{_≡_};
 ghost use mathlib.Core.Bool.{true};
-ghost use Prim.Native.Nat.{_+_, _-_, _^_, _<_};
-ghost use Rattle.emdf_format.specs.Reading.{traceOf, payloadAfter, payloads};
+ghost use Prim.Native.Nat.{_+_, _^_, _<_};
+ghost use Rattle.emdf_format.specs.Reading.{traceOf, payloadAfter};
 ghost use Rattle.openjoc_bitio.specs.Bits.{windowAt};
 ghost use Rattle.emdf_compact.specs.Words.{compactSettings, configLength};
-ghost use Rattle.openjoc_bitio.specs.Cursor.{bitsRemaining};
-ghost use Rattle.emdf_payloads.specs.Compact.{CompactAt, SizeWord, compactParts, notCompact, compactRecord, compactGroups};
-ghost use Rattle.emdf_payloads.specs.Payloads.{payloadAnswer, skipOf, stepAt, recordGroups, countOf, listAnswer, listError};
+ghost use Rattle.emdf_payloads.specs.Compact.{CompactAt, SizeWord, compactParts, notCompact, compactRecord};
+ghost use Rattle.emdf_payloads.specs.Payloads.{payloadAnswer, skipOf, stepAt};
 use emdf_fields::CountAnswer;
 use emdf_fields::FieldAnswer;
 use emdf_format::EmdfError;
@@ -28,19 +27,6 @@ pub enum PayloadStep {
 // The same, of a payload only its id.
 pub enum SkipStep {
     Past(u64, BitCursor),
-    End(BitCursor),
-    Refused(EmdfError),
-}
-
-// How many payloads there are, the largest number of groups in them, and the cursor past the end mark.
-pub enum ListAnswer {
-    List(usize, usize, BitCursor),
-    Refused(EmdfError),
-}
-
-// A payload that is passed, with the larger of a number of groups and its own; or the end of the list.
-enum CountStep {
-    Past(usize, BitCursor),
     End(BitCursor),
     Refused(EmdfError),
 }
@@ -237,18 +223,6 @@ fn size_word(s: &[u8], word: u64, position: usize, head: usize) -> u64
     openjoc_bitio::window_at(s, position + head)
 }
 
-// The largest number of groups in a compact payload: its size's, or its settings', which are one, and one more where the head
-// is marked.
-fn compact_groups(head: usize, size: usize) -> usize
-    requires { ⌜ head < 2 ^ 8 ⌝ }
-    ensures { λ r. ⌜ r ≡ compactGroups head size ⌝ }
-{
-    if size == 18 {
-        return 2;
-    }
-    1 + head / 128
-}
-
 fn not_compact() -> CompactPayload
     ensures { λ r. ⌜ r ≡ notCompact ⌝ }
 {
@@ -280,7 +254,7 @@ pub fn compact_record(c: CompactPayload, position: usize) -> PayloadRecord
 }
 
 // The next payload, or the end of the list, field by field.
-fn payload_by_fields(s: &[u8], c: BitCursor) -> PayloadStep
+pub fn payload_by_fields(s: &[u8], c: BitCursor) -> PayloadStep
     ensures { λ r. ⌜ r ≡ stepAt (now (s .entry)) c ⌝ }
 {
     let start = c.position;
@@ -301,102 +275,5 @@ fn skipped(step: PayloadStep) -> SkipStep
         PayloadStep::Payload(record, next) => SkipStep::Past(record.id, next),
         PayloadStep::End(next) => SkipStep::End(next),
         PayloadStep::Refused(why) => SkipStep::Refused(why),
-    }
-}
-
-// The largest number of groups in a payload.
-fn record_groups(payload: PayloadRecord) -> usize
-    ensures { λ r. ⌜ r ≡ recordGroups payload ⌝ }
-{
-    let config = payload.config;
-    let duration = config.duration;
-    let group = config.group_id;
-    let trace = payload.trace;
-    let start = trace.payload_size_start_bit;
-    let end = trace.payload_size_end_bit;
-    let settings = emdf_measure::larger(
-        emdf_measure::optional_groups(11, duration),
-        emdf_measure::optional_groups(2, group),
-    );
-    let id = emdf_measure::extended_groups(5, 31, payload.id);
-    emdf_measure::larger(
-        emdf_measure::larger(id, settings),
-        bits_between(start.0, end.0) / 9,
-    )
-}
-
-fn bits_between(start: usize, end: usize) -> usize
-    ensures { λ r. ⌜ r ≡ end - start ⌝ }
-{
-    if end < start {
-        return 0;
-    }
-    end - start
-}
-
-fn counted(step: PayloadStep, most: usize) -> CountStep
-    ensures { λ r. ⌜ r ≡ countOf most step ⌝ }
-{
-    match step {
-        PayloadStep::Payload(record, next) => {
-            CountStep::Past(emdf_measure::larger(most, record_groups(record)), next)
-        }
-        PayloadStep::End(next) => CountStep::End(next),
-        PayloadStep::Refused(why) => CountStep::Refused(why),
-    }
-}
-
-// Past the next payload, with the larger of a number of groups and its own.
-fn count_payload(s: &[u8], c: BitCursor, most: usize) -> CountStep
-    ensures { λ r. ⌜ r ≡ countOf most (stepAt (now (s .entry)) c) ⌝ }
-{
-    let position = c.position;
-    let end = c.end;
-    let found = compact_at(s, position, end);
-    if found.length == 0 {
-        return counted(payload_by_fields(s, BitCursor { position, end }), most);
-    }
-    let next = BitCursor {
-        position: position + found.length,
-        end,
-    };
-    if found.word >> 59 == 0 {
-        return CountStep::End(next);
-    }
-    let groups = compact_groups(found.head, found.size);
-    CountStep::Past(emdf_measure::larger(most, groups), next)
-}
-
-pub fn list_error(a: ListAnswer) -> EmdfError
-    ensures { λ r. ⌜ r ≡ listError a r ⌝ }
-{
-    match a {
-        ListAnswer::List(_, _, _) => EmdfError::ValueOverflow,
-        ListAnswer::Refused(why) => why,
-    }
-}
-
-// Reads all payloads, to the end of the list.
-pub fn count_payloads(s: &[u8], c: BitCursor) -> ListAnswer
-    ensures { λ r. ⌜ r ≡ listAnswer (c .end) (payloads (bitsRemaining (now (s .entry)) c) (now (s .entry)) (c .end) (c .position)) ⌝ }
-{
-    let mut count: usize = 0;
-    let mut groups: usize = 0;
-    let mut at = c;
-    loop {
-        let step = count_payload(s, at, groups);
-        match step {
-            CountStep::Past(most, next) => {
-                count += 1;
-                groups = most;
-                at = next;
-            }
-            CountStep::End(next) => {
-                return ListAnswer::List(count, groups, next);
-            }
-            CountStep::Refused(why) => {
-                return ListAnswer::Refused(why);
-            }
-        }
     }
 }

@@ -5,7 +5,7 @@ use Rattle.emdf_container.specs.Container.{containerAfter, containerAnsw
 use Rattle.emdf_container.specs.declared.ContainerAnswer.the-variants.{Refused}
 use Rattle.emdf_format.specs.Syntax.{escape}
 use Rattle.emdf_fields.proofs.Answers.{via}
-use Rattle.emdf_payloads.proofs.Answers.{list-found, by-list}
+use Rattle.emdf_payload_list.proofs.Answers.{list-found, by-list}
 use Rattle.emdf_container.proofs.Ends.{left, container-refuses}
 use Rattle.emdf_container.proofs.parse_payloads.Statement.{statement}
 use Rattle.emdf_container.proofs.parse_payloads.Tie as tie

@@ -45,7 +45,7 @@ put-record-requires c κs =
     omega (arith, m .size, l .inv .3)
 
 loop-less : tie.Need-loop-less Inv-loop μ-loop
-loop-less c = at-payload 0 0 _ (c .before .before .before .before .before .before .before .before .loop .at) (sym (c .before .before .before .before .before .before .before .next-payload .ensures) ∙ c .before .before .before .before .before .step .given .1) .less
+loop-less c = at-payload _ (c .before .before .before .before .before .before .before .before .loop .at) (sym (c .before .before .before .before .before .before .before .next-payload .ensures) ∙ c .before .before .before .before .before .step .given .1) .less
 
 loop-again : tie.Need-loop-again Inv-loop μ-loop
 loop-again c =

@@ -36,23 +36,23 @@ seen-next-requires : tie.Need-seen-next-requires Inv-loop μ-loop
 seen-next-requires c κs =
     let (p, h, e) = skip-past _ (sym (c .before .before .before .skip-payload .ensures) ∙ c .before .step .given .1) in
     let i = c .before .before .before .before .loop .inv in
-    (i .1, omega (arith, i .0, at-payload 0 0 _ _ h .moves))
+    (i .1, omega (arith, i .0, at-payload _ _ h .moves))
 
 seen-next-requires-2 : tie.Need-seen-next-requires-2 Inv-loop μ-loop
 seen-next-requires-2 c κs =
     let (p, h, e) = skip-past _ (sym (c .before .before .before .before .skip-payload .ensures) ∙ c .before .before .step .given .1) in
     let i = c .before .before .before .before .before .loop .inv in
-    (i .2, omega (arith, i .0, at-payload 0 0 _ _ h .moves))
+    (i .2, omega (arith, i .0, at-payload _ _ h .moves))
 
 add-place : tie.Need-add-place Inv-loop μ-loop
 add-place c =
     let (p, h, e) = skip-past _ (sym (c .before .before .before .before .before .skip-payload .ensures) ∙ c .before .before .before .step .given .1) in
-    omega (arith, c .before .before .before .before .before .before .loop .inv .0, at-payload 0 0 _ _ h .moves)
+    omega (arith, c .before .before .before .before .before .before .loop .inv .0, at-payload _ _ h .moves)
 
 loop-less : tie.Need-loop-less Inv-loop μ-loop
 loop-less c =
     let (p, h, e) = skip-past _ (sym (c .before .before .before .before .before .skip-payload .ensures) ∙ c .before .before .before .step .given .1) in
-    at-payload 0 0 _ _ h .less
+    at-payload _ _ h .less
 
 loop-again : tie.Need-loop-again Inv-loop μ-loop
 loop-again c =
@@ -60,7 +60,7 @@ loop-again c =
     let (p, h, e) = skip-past _ (sym (c .before .before .before .before .before .skip-payload .ensures) ∙ c .before .before .before .step .given .1) in
     let o = c .before .seen-next .ensures p _ h e in
     let j = c .seen-next2 .ensures p _ h e in
-    (omega (arith, i .0, at-payload 0 0 _ _ h .moves), rw o (count-next _ 11 _ p (i .1)), rw j (count-next _ 14 _ p (i .2)), λ xs l. same-next (i .3 xs l) h o j)
+    (omega (arith, i .0, at-payload _ _ h .moves), rw o (count-next _ 11 _ p (i .1)), rw j (count-next _ 14 _ p (i .2)), λ xs l. same-next (i .3 xs l) h o j)
 
 enum-told : tie.Need-enum-told Inv-loop μ-loop
 enum-told c = search needs

@@ -2,9 +2,9 @@ use borrow.Author.Needs.{needs}
 use mathlib.Core.Path.{refl}
 use native.Mathlib.Omega.{arith}
 use Rattle.emdf_format.specs.Syntax.{escape}
 use Rattle.emdf_payloads.specs.Payloads.{recordGroups}
-use Rattle.emdf_payloads.proofs.record_groups.Statement.{statement}
-use Rattle.emdf_payloads.proofs.record_groups.Tie as tie
+use Rattle.emdf_payload_list.proofs.record_groups.Statement.{statement}
+use Rattle.emdf_payload_list.proofs.record_groups.Tie as tie
 
 optional-groups-requires : tie.Need-optional-groups-requires
 optional-groups-requires c κs = search needs

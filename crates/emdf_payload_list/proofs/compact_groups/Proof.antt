@@ -1,8 +1,8 @@
 use borrow.Author.Needs.{needs}
 use borrow.Author.Tests.{eq-eqb, ne-eqb}
 use Rattle.emdf_payloads.specs.Compact.{compactGroups}
-use Rattle.emdf_payloads.proofs.compact_groups.Statement.{statement}
-use Rattle.emdf_payloads.proofs.compact_groups.Tie as tie
+use Rattle.emdf_payload_list.proofs.compact_groups.Statement.{statement}
+use Rattle.emdf_payload_list.proofs.compact_groups.Tie as tie
 
 returns : tie.Need-returns
 unfolding compactGroups

@@ -1,7 +1,7 @@
 use borrow.Author.Needs.{needs}
-use Rattle.emdf_payloads.specs.Payloads.{countOf}
-use Rattle.emdf_payloads.proofs.counted.Statement.{statement}
-use Rattle.emdf_payloads.proofs.counted.Tie as tie
+use Rattle.emdf_payload_list.specs.List.{listStep}
+use Rattle.emdf_payload_list.proofs.list_step.Statement.{statement}
+use Rattle.emdf_payload_list.proofs.list_step.Tie as tie
 
 enum-known-step : tie.Need-enum-known-step
 enum-known-step c = search needs
@@ -19,19 +19,19 @@ enum-known-step-3 : tie.Need-enum-known-step-3
 enum-known-step-3 c = search needs
 
 returns : tie.Need-returns
-unfolding countOf
+unfolding listStep
 returns c = rw (c .before .before .before .step .given .1, c .larger .ensures, c .before .record-groups .ensures)
 
 returns-2 : tie.Need-returns-2
-unfolding countOf
+unfolding listStep
 returns-2 c = rw (c .before .step2 .given .1)
 
 returns-3 : tie.Need-returns-3
-unfolding countOf
+unfolding listStep
 returns-3 c = rw (c .before .step3 .given .1)
 
-pub counted-spec : {M : Type 1} → statement M
-counted-spec =
+pub list-step-spec : {M : Type 1} → statement M
+list-step-spec =
     tie.close
     (tie.spec
     enum-known-step
