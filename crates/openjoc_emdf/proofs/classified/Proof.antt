@@ -9,14 +9,18 @@ enum-known-answer c = search needs
 
 returns : tie.Need-returns
 unfolding classifiedOf
-returns c = rw (c .before .before .answer .given .1) (simp (eq-eqb _ _ (c .if1 .taken)))
+returns c =
+    let a = c .before .before .answer .given in
+    rw (a .1) (simp (eq-eqb (a .0 .0 .«bytes_consumed» .0) (c .before .before .before .before .args .length) (c .if1 .taken)))
 
 enum-known-answer-2 : tie.Need-enum-known-answer-2
 enum-known-answer-2 c = search needs
 
 returns-2 : tie.Need-returns-2
 unfolding classifiedOf
-returns-2 c = rw (c .before .before .answer .given .1) (simp (ne-eqb _ _ (c .if1 .left)))
+returns-2 c =
+    let a = c .before .before .answer .given in
+    rw (a .1) (simp (ne-eqb (a .0 .0 .«bytes_consumed» .0) (c .before .before .before .before .args .length) (c .if1 .left)))
 
 returns-3 : tie.Need-returns-3
 unfolding classifiedOf
