@@ -18,7 +18,7 @@ returns c = rw (c .enum-told .given .1)
 
 returns-2 : tie.Need-returns-2
 unfolding optionalGroups
-returns-2 c = rw (c .before .before .o .given .1, ← c .group-count .ensures .0)
+returns-2 c = rw (c .before .before .o .given .1, c .group-count .ensures .0)
 
 pub optional-groups-spec : {M : Type 1} → statement M
 optional-groups-spec =
