@@ -44,18 +44,34 @@ const char *find_option(char **words)
     return *words;
 }
 
-int parse_number(const char *text, uint64_t *value)
+static int parse_digits(const char *text, const char *end, uint64_t *value)
 {
     *value = 0;
-    if (!*text)
+    if (text == end)
         return 0;
-    for (; *text; text++) {
+    for (; text < end; text++) {
         unsigned digit = (unsigned)(*text - '0');
         if (*text < '0' || *text > '9' || *value > (UINT64_MAX - digit) / 10)
             return 0;
         *value = *value * 10 + digit;
     }
     return 1;
+}
+
+int parse_number(const char *text, uint64_t *value)
+{
+    return parse_digits(text, text + strlen(text), value);
+}
+
+/* A place is a number of the library's, which has the machine's width. */
+int parse_payload(const char *text, struct payload *payload)
+{
+    const char *mark = strchr(text, '#');
+    memset(payload, 0, sizeof *payload);
+    payload->has_ordinal = mark != NULL;
+    if (!mark)
+        return parse_number(text, &payload->place) && payload->place <= SIZE_MAX;
+    return parse_digits(text, mark, &payload->id) && parse_number(mark + 1, &payload->ordinal);
 }
 
 /* -1 where it is none. */

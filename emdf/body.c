@@ -9,19 +9,23 @@ int command_body(char **words)
 {
     static struct input input;
     static uint8_t scratch[BODY_MOST];
-    uint8_t answer[EMDF_MOVE_ANSWER_BYTES];
+    uint8_t answer[EMDF_MOVE_ANSWER_BYTES], found[EMDF_FIND_ANSWER_BYTES];
     const char *out;
-    uint64_t place, start;
+    struct payload payload;
+    uint64_t start;
     uint32_t number;
     if (!take_output("body", words, &out))
         return FAILED;
     if (!words[0] || !words[1] || words[2])
         return usage_error("body", "a file and a place are wanted");
-    if (!parse_number(words[1], &place) || place > SIZE_MAX)
-        return usage_error("body", "no place: %s", words[1]);
+    if (!parse_payload(words[1], &payload))
+        return usage_error("body", "no place, and no ID#ORDINAL: %s", words[1]);
     if (!load_input(&input, words[0]))
         return FAILED;
-    number = emdf_move_body(input.bytes, input.length, (size_t)place, scratch, sizeof scratch, answer);
+    number = find_place(&input, &payload, found);
+    if (number != EMDF_ACCEPTED)
+        return say_refused(input.name, number, found, "");
+    number = emdf_move_body(input.bytes, input.length, (size_t)payload.place, scratch, sizeof scratch, answer);
     if (number != EMDF_ACCEPTED)
         return say_refused(input.name, number, answer, "");
     start = emdf_word(answer, EMDF_BODY_START_BIT);

@@ -58,6 +58,16 @@ void read_carrier(const struct input *input, struct reading *reading)
     reading->padding = reading->protection + 8 * protections;
 }
 
+uint32_t find_place(const struct input *input, struct payload *payload, uint8_t answer[EMDF_FIND_ANSWER_BYTES])
+{
+    uint32_t number = EMDF_ACCEPTED;
+    if (payload->has_ordinal) {
+        number = emdf_find_payload(input->bytes, input->length, payload->id, payload->ordinal, answer);
+        payload->place = number == EMDF_ACCEPTED ? emdf_word(answer, EMDF_FOUND_PLACE) : SIZE_MAX;
+    }
+    return number;
+}
+
 size_t body_start(const struct input *input, const uint8_t *row, uint8_t *first)
 {
     uint8_t answer[EMDF_BIT_ANSWER_BYTES];

@@ -14,11 +14,10 @@ static int wants(const struct edit *edit, const char *what)
     return usage_error(edit->command, "%s wants %s", edit->kind->name, what), 0;
 }
 
-/* A place is a number of the library's, which has the machine's width. */
 static int parse_place(struct edit *edit)
 {
-    if (edit->count < 2 || !parse_number(edit->words[1], &edit->place) || edit->place > SIZE_MAX)
-        return wants(edit, "a place: a number, from 0 on");
+    if (edit->count < 2 || !parse_payload(edit->words[1], &edit->payload))
+        return wants(edit, "a place: a number, from 0 on, or ID#ORDINAL");
     return 1;
 }
 
@@ -125,7 +124,7 @@ static int parse_protection(struct edit *edit)
 
 static uint32_t run_body(struct carriers *c, const struct edit *edit)
 {
-    return emdf_edit_body(c->source.bytes, c->source.length, (size_t)edit->place, edit->octets.bytes, edit->octets.length,
+    return emdf_edit_body(c->source.bytes, c->source.length, (size_t)edit->payload.place, edit->octets.bytes, edit->octets.length,
                           c->destination, sizeof c->destination, c->answer);
 }
 
@@ -148,23 +147,24 @@ static uint32_t run_set(struct carriers *c, const struct edit *edit)
     struct reading reading;
     const uint8_t *base = edit->base ? edit->base : emdf_settings_bare;
     read_carrier(&c->source, &reading);
-    if (!edit->base && edit->place < reading.count)
-        base = settings_at(&reading, (size_t)edit->place);
+    if (!edit->base && edit->payload.place < reading.count)
+        base = settings_at(&reading, (size_t)edit->payload.place);
     name_settings(edit, base, settings);
-    return emdf_edit_settings(c->source.bytes, c->source.length, (size_t)edit->place, settings, sizeof settings, c->destination,
-                              sizeof c->destination, c->answer);
+    return emdf_edit_settings(c->source.bytes, c->source.length, (size_t)edit->payload.place, settings, sizeof settings,
+                              c->destination, sizeof c->destination, c->answer);
 }
 
 static uint32_t run_drop(struct carriers *c, const struct edit *edit)
 {
-    return emdf_edit_drop(c->source.bytes, c->source.length, (size_t)edit->place, c->destination, sizeof c->destination, c->answer);
+    return emdf_edit_drop(c->source.bytes, c->source.length, (size_t)edit->payload.place, c->destination, sizeof c->destination,
+                          c->answer);
 }
 
 static uint32_t run_insert(struct carriers *c, const struct edit *edit)
 {
     uint8_t settings[EMDF_SETTINGS_BYTES];
     name_settings(edit, edit->base, settings);
-    return emdf_edit_insert(c->source.bytes, c->source.length, (size_t)edit->place, edit->id, settings, sizeof settings,
+    return emdf_edit_insert(c->source.bytes, c->source.length, (size_t)edit->payload.place, edit->id, settings, sizeof settings,
                             edit->octets.bytes, edit->octets.length, c->destination, sizeof c->destination, c->answer);
 }
 
@@ -252,7 +252,7 @@ void free_edits(struct edits *edits)
 void print_edit(FILE *out, const struct edit *edit, size_t octets_shown)
 {
     size_t length = edit->octets.length;
-    fprintf(out, "%s %" PRIu64, edit->kind->name, edit->kind->in_recipe == EMDF_RECIPE_KEY ? edit->id : edit->place);
+    fprintf(out, "%s %" PRIu64, edit->kind->name, edit->kind->in_recipe == EMDF_RECIPE_KEY ? edit->id : edit->payload.place);
     if (edit->kind->in_recipe != EMDF_RECIPE_BODY)
         return;
     fputs(length ? " " : " -", out);
@@ -302,9 +302,14 @@ int say_edit_refused(const struct carriers *c, const struct edit *edit, size_t i
     return end_refused(number, c->answer, find_hint(edit, number));
 }
 
+/* Where no payload has the id and ordinal, 24 stands for 16: what is asked of the source comes before it. */
 uint32_t run_edit(struct carriers *c, const struct edit *edit)
 {
-    uint32_t number = edit->kind->run(c, edit);
+    uint8_t answer[EMDF_FIND_ANSWER_BYTES];
+    struct edit placed = *edit;
+    uint32_t found = find_place(&c->source, &placed.payload, answer), number = edit->kind->run(c, &placed);
+    if (number == EMDF_NO_SUCH_PLACE && found != EMDF_ACCEPTED)
+        return found;
     if (number == EMDF_ACCEPTED) {
         c->source.length = (size_t)emdf_word(c->answer, EMDF_WRITTEN_LENGTH);
         memcpy(c->source.bytes, c->destination, c->source.length);

@@ -129,9 +129,11 @@ static void print_payload(const struct report *report, size_t place)
 {
     const uint8_t *row = row_at(&report->reading, place);
     const char *name = emdf_payload_name(emdf_word(row, EMDF_ROW_ID));
-    printf("  payload %lu: id %" PRIu64, (unsigned long)place, emdf_word(row, EMDF_ROW_ID));
+    uint64_t ordinal = emdf_word(row, EMDF_ROW_ORDINAL);
+    printf("  payload %lu: id %" PRIu64 " (%" PRIu64 "%s)", (unsigned long)place, emdf_word(row, EMDF_ROW_ID), ordinal,
+           emdf_ordinal_ending(ordinal));
     if (name)
-        printf(" (%s)", name);
+        printf(", %s", name);
     putchar('\n');
     print_settings(settings_at(&report->reading, place));
     print_spans(row);
@@ -224,7 +226,8 @@ static void print_json_payload(const struct report *report, size_t place)
     const char *name = emdf_payload_name(emdf_word(row, EMDF_ROW_ID));
     uint8_t first[BODY_BYTES_SHOWN];
     size_t i, n = body_start(&report->input, row, first);
-    printf("%s{\"place\":%lu,\"id\":%" PRIu64 ",\"name\":", place ? "," : "", (unsigned long)place, emdf_word(row, EMDF_ROW_ID));
+    printf("%s{\"place\":%lu,\"id\":%" PRIu64 ",\"ordinal\":%" PRIu64 ",\"name\":", place ? "," : "", (unsigned long)place,
+           emdf_word(row, EMDF_ROW_ID), emdf_word(row, EMDF_ROW_ORDINAL));
     if (name)
         printf("\"%s\"", name);
     else

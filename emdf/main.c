@@ -33,6 +33,8 @@ static const char DETAILS[] =
     "  protection HEX HEX                          other primary and secondary protection\n"
     "\n"
     "FILE or RECIPE - is standard input, after -o standard output. Places count from 0.\n"
+    "PLACE may be ID#ORDINAL, but not in a recipe: 40#2 is the second payload with id 40,\n"
+    "of a list of edits the second in what the edits before it left.\n"
     "HEX is pairs of hexadecimal digits, or - for no bytes. NAME is a setting:\n";
 
 static const char STATUS[] =

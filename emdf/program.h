@@ -97,6 +97,16 @@ size_t body_start(const struct input *input, const uint8_t *row, uint8_t *first)
 const uint8_t *primary_of(const struct reading *reading, size_t *length);
 const uint8_t *secondary_of(const struct reading *reading, size_t *length);
 
+/* A payload as words name it: by its place or, where has_ordinal, as the ordinal-th of its id. */
+struct payload {
+    int has_ordinal;
+    uint64_t place, id, ordinal;
+};
+
+/* The place of a payload in the carrier that is read; one that words name by its place has it already. Answers the refusal's
+   number, or 0; where it refuses the place is one that no carrier has. */
+uint32_t find_place(const struct input *input, struct payload *payload, uint8_t answer[EMDF_FIND_ANSWER_BYTES]);
+
 /* ---- verdict.c */
 
 struct verdict {
@@ -143,6 +153,9 @@ const char *find_option(char **words);
 /* 0 where the text is no decimal number of 64 bits. */
 int parse_number(const char *text, uint64_t *value);
 
+/* PLACE or ID#ORDINAL. 0 where the text is neither. */
+int parse_payload(const char *text, struct payload *payload);
+
 struct octets {
     uint8_t *bytes; /* its own, to be freed */
     size_t length;
@@ -177,7 +190,8 @@ struct edit {
     const struct kind *kind;
     char **words; /* its name, and what follows it up to the next edit; NULL where it comes from a recipe */
     size_t count;
-    uint64_t place, id; /* id: of a payload or a key */
+    struct payload payload; /* before which one an insert stands */
+    uint64_t id; /* of an insert's payload, or a key */
     const uint8_t *base; /* the settings that it starts from; NULL: those of the payload */
     uint8_t values[EMDF_SETTINGS_BYTES]; /* where is_named */
     int is_named[EMDF_SETTING_COUNT];

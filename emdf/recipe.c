@@ -65,7 +65,7 @@ static size_t take_record(const struct recipe *recipe, size_t index, struct edit
     const uint8_t *record = record_at(recipe->bytes, index);
     memset(edit, 0, sizeof *edit);
     edit->kind = find_recipe_kind(record[KIND_AT]);
-    edit->place = number_at(record + PLACE_AT, NUMBER_BYTES);
+    edit->payload.place = number_at(record + PLACE_AT, NUMBER_BYTES);
     if (record[KIND_AT] == EMDF_RECIPE_KEY)
         edit->id = number_at(data_of(recipe, record), KEY_BYTES);
     if (record[KIND_AT] == EMDF_RECIPE_BODY) {
@@ -97,7 +97,7 @@ static int check_kinds(char **words)
     return 1;
 }
 
-/* 0 after a complaint: where records have no room for the edits. */
+/* 0 after a complaint: where records have no room for the edits, or no place for what is named by its ordinal. */
 static int check_room(const struct edits *edits)
 {
     size_t i;
@@ -105,7 +105,9 @@ static int check_room(const struct edits *edits)
         return usage_error("recipe", "a recipe holds at most %d edits", EDITS_MOST), 0;
     for (i = 0; i < edits->count; i++) {
         const struct edit *edit = &edits->list[i];
-        if (edit->place > UINT32_MAX)
+        if (edit->payload.has_ordinal)
+            return usage_error("recipe", "a recipe has no carrier to find %s in: name its place", edit->words[1]), 0;
+        if (edit->payload.place > UINT32_MAX)
             return usage_error("recipe", "a place in a recipe is at most %" PRIu32 ": %s", UINT32_MAX, edit->words[1]), 0;
         if (edit->octets.length > BODY_MOST) /* a file's, which was cut */
             return usage_error("recipe", "a body in a recipe has at most %d bytes: %s", BODY_MOST, edit->words[2]), 0;
@@ -139,7 +141,7 @@ static void put_edit(uint8_t *file, size_t index, size_t next, const struct edit
     uint8_t *record = record_at(file, index);
     put_number(record + NEXT_AT, INDEX_BYTES, next);
     record[KIND_AT] = (uint8_t)edit->kind->in_recipe;
-    put_number(record + PLACE_AT, NUMBER_BYTES, edit->place);
+    put_number(record + PLACE_AT, NUMBER_BYTES, edit->payload.place);
     if (edit->kind->in_recipe == EMDF_RECIPE_DROP)
         return; /* offset and length stay 0 */
     put_number(record + OFFSET_AT, NUMBER_BYTES, offset);

@@ -21,7 +21,7 @@ extern "C" {
 /* The version of what the calls take and answer. It rises whenever the size or the meaning of an answer, a row, settings or a
    refusal changes, or what a call leaves in a buffer. emdf_version() is the archive's: where the two differ, the header is of
    another library. */
-#define EMDF_VERSION 4
+#define EMDF_VERSION 5
 uint32_t emdf_version(void);
 
 /* What a call returns: 0, or the number of the refusal, whose figures are the answer's first two numbers (of
@@ -52,7 +52,8 @@ enum {
     EMDF_TRAILING_BYTES = 20,     /* of an edit: the source is more than one carrier */
     EMDF_TRUNCATED_HEADER = 21,   /* fewer bytes than a header has: 4, available (bytes) */
     EMDF_BROKEN_CHAIN = 22,       /* of a recipe: no 4 bytes, an index that leads nowhere, or a record outside the file */
-    EMDF_INVALID_RECORD = 23      /* of a recipe: a record whose kind, zero byte, length or data are not as they should be */
+    EMDF_INVALID_RECORD = 23,     /* of a recipe: a record whose kind, zero byte, length or data are not as they should be */
+    EMDF_NO_SUCH_ORDINAL = 24     /* of emdf_find_payload: no payload has that id and ordinal */
 };
 
 /* The most bytes that a carrier has, and the most payloads: buffers of these sizes are long enough for every carrier. */
@@ -109,6 +110,12 @@ enum {
     EMDF_MALFORMED = 3
 };
 
+/* The size in bytes of emdf_find_payload's answer, and where the number of an accepted one stands. */
+#define EMDF_FIND_ANSWER_BYTES 16
+enum {
+    EMDF_FOUND_PLACE = 0 /* number 1 is 0 */
+};
+
 /* The size in bytes of emdf_move_body's answer, and where its two numbers stand. */
 #define EMDF_MOVE_ANSWER_BYTES 16
 enum {
@@ -160,9 +167,10 @@ enum {
     EMDF_MARK_GROUP_IDS_DIFFER = 1 << 20
 };
 
-/* The size in bytes of a payload's row in the table, and where its 27 numbers stand. The number before a value is 1 where
-   the value is present, and 0, with the value 0, where it is absent. Starts and ends are in bits from the carrier's first. */
-#define EMDF_ROW_BYTES 216
+/* The size in bytes of a payload's row in the table, and where its 28 numbers stand. The number before a value is 1 where
+   the value is present, and 0, with the value 0, where it is absent. Starts and ends are in bits from the carrier's first. The
+   ordinal tells payloads of one id apart: 1 for the first of them in the carrier, 2 for the second, and so on. */
+#define EMDF_ROW_BYTES 224
 enum {
     EMDF_ROW_ID = 0,
     EMDF_ROW_HAS_SAMPLE_OFFSET = 1,
@@ -190,7 +198,8 @@ enum {
     EMDF_ROW_SIZE_START_BIT = 23,
     EMDF_ROW_SIZE_END_BIT = 24,
     EMDF_ROW_BODY_START_BIT = 25,
-    EMDF_ROW_BODY_END_BIT = 26
+    EMDF_ROW_BODY_END_BIT = 26,
+    EMDF_ROW_ORDINAL = 27
 };
 
 /* The size in bytes of an edit's or emdf_blank's answer, and where the number of an accepted one stands. */
@@ -306,6 +315,13 @@ uint32_t emdf_classify(const uint8_t *bytes, size_t length, uint8_t answer[EMDF_
    refuses, stays as it was. Asked: the reading, 13. */
 uint32_t emdf_read(const uint8_t *bytes, size_t length, uint8_t *table, size_t table_length,
                    uint8_t answer[EMDF_READ_ANSWER_BYTES]);
+
+/* Finds the place of the payload that is the ordinal-th of its id in the carrier at the start of bytes: (40, 2) is the second
+   payload with id 40, counted from 1 in the carrier's order. No table is needed, and bytes after the carrier are not looked at.
+   The place is what the calls below take; it holds for this carrier alone. Asked: the reading, 24 (also for an ordinal 0 or an
+   id 0, which no payload has). */
+uint32_t emdf_find_payload(const uint8_t *bytes, size_t length, uint64_t id, uint64_t ordinal,
+                           uint8_t answer[EMDF_FIND_ANSWER_BYTES]);
 
 /* Copies the body of the payload at place to the scratch, unless it starts on a byte of the carrier. Asked: the reading, 16 and,
    of a body that is copied, 19. */

@@ -1,4 +1,4 @@
-/* Words and names for the numbers of emdf.h: refusals and their figures, settings, marks, known payload ids.
+/* Words and names for the numbers of emdf.h: refusals and their figures, settings, marks, known payload ids, ordinals.
    They stand in emdf_names.c, a file of tables that a host compiles beside its own. */
 #ifndef EMDF_NAMES_H
 #define EMDF_NAMES_H
@@ -45,6 +45,9 @@ int emdf_mark_passes_compat(unsigned bit, int is_present, uint64_t value);
 
 /* What the payloads of an id are called: 11 "OAMD", 14 "JOC"; NULL for another id. */
 const char *emdf_payload_name(uint64_t id);
+
+/* What stands behind the digits of an ordinal: "st", "nd", "rd" or "th", as in 1st, 2nd, 3rd, 11th. */
+const char *emdf_ordinal_ending(uint64_t ordinal);
 
 #ifdef __cplusplus
 }

@@ -36,6 +36,7 @@ static const struct refusal REFUSALS[] = {
     {"fewer bytes than a header has", {"needed", "available"}},
     {"the recipe's chain is broken", {NULL, NULL}},
     {"a record of the recipe is not of the form", {NULL, NULL}},
+    {"no payload with that id and ordinal", {NULL, NULL}},
 };
 
 static const struct refusal UNLISTED = {"a refusal that has no words here", {"first", "second"}};
@@ -187,4 +188,11 @@ int emdf_mark_passes_compat(unsigned bit, int is_present, uint64_t value)
 const char *emdf_payload_name(uint64_t id)
 {
     return id == 11 ? "OAMD" : id == 14 ? "JOC" : NULL;
+}
+
+/* 11, 12 and 13 go by their tens, here and in each hundred. */
+const char *emdf_ordinal_ending(uint64_t ordinal)
+{
+    static const char *const endings[] = {"th", "st", "nd", "rd"};
+    return ordinal / 10 % 10 == 1 || ordinal % 10 > 3 ? "th" : endings[ordinal % 10];
 }

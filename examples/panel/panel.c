@@ -213,7 +213,9 @@ static void print_body(const struct panel *panel, const uint8_t *row)
 static void print_payload(const struct panel *panel, size_t place)
 {
     const uint8_t *row = table + place * EMDF_ROW_BYTES;
-    printf("payload %lu id=%" PRIu64 "\n", (unsigned long)place, emdf_word(row, EMDF_ROW_ID));
+    uint64_t ordinal = emdf_word(row, EMDF_ROW_ORDINAL);
+    printf("payload %lu id=%" PRIu64 " (%" PRIu64 "%s)\n", (unsigned long)place, emdf_word(row, EMDF_ROW_ID), ordinal,
+           emdf_ordinal_ending(ordinal));
     print_settings(row);
     print_spans(row);
     print_ruler(row);

@@ -19,6 +19,7 @@ const struct facts FACTS[CALLS] = {
     {"emdf_variable_bits", EMDF_FIELD_ANSWER_BYTES, BIT(0) | BIT(3) | BIT(5) | BIT(6) | BIT(7), 0, 0},
     {"emdf_classify", EMDF_CLASS_ANSWER_BYTES, BIT(0) | CUT | FIELDS_REFUSED, 0, 1},
     {"emdf_read", EMDF_READ_ANSWER_BYTES, READING | BIT(13), 1, 1},
+    {"emdf_find_payload", EMDF_FIND_ANSWER_BYTES, READING | BIT(24), 0, 1},
     {"emdf_move_body", EMDF_MOVE_ANSWER_BYTES, READING | BIT(16) | BIT(19), 1, 1},
     {"emdf_verdict", EMDF_VERDICT_ANSWER_BYTES, READING | BIT(14) | BIT(15), 0, 1},
     {"emdf_edit_body", EMDF_EDIT_ANSWER_BYTES, EDIT | BIT(16) | BIT(18), 1, 1},
@@ -65,6 +66,8 @@ static uint32_t carrier_call(const struct request *r)
         return emdf_classify(b, n, r->answer);
     case READ:
         return emdf_read(b, n, r->room, r->room_length, r->answer);
+    case FIND_PAYLOAD:
+        return emdf_find_payload(b, n, r->number, r->ordinal, r->answer);
     case MOVE_BODY:
         return emdf_move_body(b, n, r->place, r->room, r->room_length, r->answer);
     default:

@@ -9,7 +9,7 @@
 
 enum call {
     BIT_CURSOR, BITS_REMAINING, READ_BITS, READ_BIT, TAKE_BITS, BYTE_ALIGN, VARIABLE_BITS,
-    CLASSIFY, READ, MOVE_BODY, VERDICT,
+    CLASSIFY, READ, FIND_PAYLOAD, MOVE_BODY, VERDICT,
     EDIT_BODY, EDIT_SETTINGS, EDIT_DROP, EDIT_INSERT, EDIT_KEY, EDIT_PROTECTION, BLANK,
     CHECK_RECIPE, RUN_RECIPE,
     CALLS
@@ -28,6 +28,7 @@ struct request {
     struct slice body;       /* or the primary protection, or the recipe */
     struct slice settings;   /* or the secondary protection */
     uint64_t number;         /* an id or a key id */
+    uint64_t ordinal;        /* of a payload with that id */
     size_t position, end, count, place;
     uint8_t width, limit;
     uint32_t profile;

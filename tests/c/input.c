@@ -166,6 +166,21 @@ static struct slice choose_recipe(const struct input *in)
     return chosen;
 }
 
+/* Mostly the id of the payload at the place, and a small ordinal. */
+static void choose_find(const struct input *in, const uint8_t *row, struct request *r)
+{
+    uint8_t kind = in->bytes[AT_ID_KIND] % ID_KINDS, ordinal = in->bytes[AT_ORDINAL];
+    uint64_t high_bit = UINT64_C(1) << (8 + in->bytes[AT_HIGH_BIT] % 56);
+
+    if (row != NULL && kind != ID_OF_INPUT)
+        r->number = emdf_word(row, EMDF_ROW_ID) ^ (kind == ID_AND_HIGH_BIT ? high_bit : 0);
+    r->ordinal = ordinal % 16;
+    if (ordinal >= ORDINAL_OF_INPUT)
+        r->ordinal = number_at(in, AT_POSITION, 8);
+    else if (ordinal >= ORDINAL_AND_HIGH_BIT)
+        r->ordinal |= high_bit;
+}
+
 struct request request_of(const struct input *in, const struct reading *own, uint8_t *body, uint8_t *settings)
 {
     struct request r;
@@ -194,6 +209,8 @@ struct request request_of(const struct input *in, const struct reading *own, uin
         r.settings = choose_settings(in, row, settings);
     } else if (is_recipe(r.call)) {
         r.body = choose_recipe(in);
+    } else if (r.call == FIND_PAYLOAD) {
+        choose_find(in, row, &r);
     }
     return r;
 }

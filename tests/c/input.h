@@ -5,9 +5,10 @@
 
 #include "calls.h"
 
-/* Where the choices stand. */
+/* Where the choices stand. A payload that is looked for takes three of them for how its id and its ordinal are chosen. */
 enum {
     AT_CALL = 0, AT_ROOM = 1, AT_PLACE = 2, AT_WIDTH = 3, AT_LIMIT = 4, AT_PROFILE = 5,
+    AT_ID_KIND = AT_WIDTH, AT_ORDINAL = AT_LIMIT, AT_HIGH_BIT = AT_PROFILE,
     AT_PRIMARY_LENGTH = 6, AT_SECONDARY_LENGTH = 7,
     AT_NUMBER = 8, AT_POSITION = 16, AT_END_BIT = 24,
     AT_BODY_LENGTH = 32, AT_BODY_KIND = 34, AT_SETTINGS_KIND = 35,
@@ -17,6 +18,12 @@ enum {
     AT_SPLIT = 92, AT_OVERLAP = 95, AT_SECOND_ROOM = 96, AT_SECOND_MORE = 97,
     HEAD = 98
 };
+
+/* The kind of an id that is looked for: that of a payload, the same with another high bit, or the number of the input. */
+enum { ID_OF_PAYLOAD, ID_AND_HIGH_BIT = 2, ID_OF_INPUT, ID_KINDS };
+
+/* From here on an ordinal has a high bit set, and then it is a number of the input. */
+enum { ORDINAL_AND_HIGH_BIT = 192, ORDINAL_OF_INPUT = 240 };
 
 enum {
     SOURCE_MOST = 70000,

@@ -173,6 +173,24 @@ static void each_recipe(const uint8_t *carrier, size_t length, input_taker take,
     run_recipes(take_wrapped, &s);
 }
 
+/* Ids that some carriers have, each with its first three ordinals. */
+static void each_find(const uint8_t *carrier, size_t length, input_taker take, void *with)
+{
+    static const uint64_t ids[] = {1, 2, 11, 14, 31, 40, 600, UINT64_MAX};
+    static struct input in;
+    size_t i;
+    uint8_t ordinal;
+
+    for (i = 0; i < sizeof ids / sizeof ids[0]; i++)
+        for (ordinal = 1; ordinal <= 3; ordinal++) {
+            plain_input(&in, FIND_PAYLOAD, carrier, length);
+            put_number(in.bytes + AT_NUMBER, 8, ids[i]);
+            in.bytes[AT_ID_KIND] = ID_OF_INPUT;
+            in.bytes[AT_ORDINAL] = ordinal;
+            take(with, &in);
+        }
+}
+
 void each_input(const uint8_t *carrier, size_t length, input_taker take, void *with)
 {
     static struct input in;
@@ -187,6 +205,7 @@ void each_input(const uint8_t *carrier, size_t length, input_taker take, void *w
         in.bytes[AT_BODY_KIND] = 3;
         take(with, &in);
     }
+    each_find(carrier, length, take, with);
     each_recipe(carrier, length, take, with);
 }
 
@@ -259,6 +278,17 @@ static void change_number(struct input *in, struct random *random)
         in->bytes[at + i - 1] = (uint8_t)v;
         v >>= 8;
     }
+}
+
+/* Another payload that is looked for: one of the first ones' ids, or the input's number, and an ordinal near 1. */
+static void change_find(struct input *in, struct random *random)
+{
+    in->bytes[AT_PLACE] = (uint8_t)draw_below(random, 12);
+    in->bytes[AT_ID_KIND] = (uint8_t)draw_below(random, ID_KINDS);
+    in->bytes[AT_ORDINAL] = (uint8_t)draw_below(random, draw(random) % 4 == 0 ? 16 : 4);
+    in->bytes[AT_HIGH_BIT] = (uint8_t)draw(random);
+    if (draw(random) % 8 == 0)
+        in->bytes[AT_ORDINAL] += ORDINAL_AND_HIGH_BIT;
 }
 
 /* Where the recipe starts, in the whole input. */
@@ -368,12 +398,24 @@ static void mend_header(struct input *in, struct random *random)
     in->bytes[HEAD + 3] = (uint8_t)declared;
 }
 
+/* What a call takes beside its carrier: a recipe, or an id and an ordinal. Whether it was changed. */
+static int change_beside(struct input *in, struct random *random)
+{
+    enum call call = in->bytes[AT_CALL] % CALLS;
+
+    if (is_recipe(call) && draw(random) % 2 == 0)
+        change_recipe(in, random);
+    else if (call == FIND_PAYLOAD && draw(random) % 4 == 0)
+        change_find(in, random);
+    else
+        return 0;
+    return 1;
+}
+
 static void change(struct input *in, struct random *random, const struct pool *corpus)
 {
-    if (is_recipe(in->bytes[AT_CALL] % CALLS) && draw(random) % 2 == 0) {
-        change_recipe(in, random);
+    if (change_beside(in, random))
         return;
-    }
     switch (draw_below(random, 12)) {
     case 0:
     case 1:

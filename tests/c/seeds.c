@@ -96,6 +96,16 @@ size_t seed_carrier(uint8_t *carrier, unsigned payloads, size_t body_length, int
     return length;
 }
 
+size_t turning_carrier(uint8_t *carrier, unsigned payloads, uint64_t first, unsigned ids)
+{
+    size_t length = blank(carrier, 0, 1, 0);
+    unsigned k;
+
+    for (k = 0; k < payloads; k++)
+        length = append(carrier, length, k, first + k % ids, 0, 0);
+    return length;
+}
+
 /* With settings of 5 bits and a size of one group the body starts on a byte. */
 size_t wrapped_carrier(uint8_t *carrier, const uint8_t *body, size_t body_length)
 {
@@ -108,6 +118,15 @@ static const struct {
     int is_wide;
 } SHAPES[] = {
     {0, 0, 1}, {1, 3, 1}, {4, 2, 0}, {40, 1, 0}, {9, 300, 0}, {3, 0, 1}, {600, 0, 0}, {1, 60000, 0}, {1, 65523, 0},
+};
+
+/* Ids that repeat and such as don't, with the escape and without it; more of them than there are slots. */
+static const struct {
+    unsigned payloads;
+    uint64_t first;
+    unsigned ids;
+} TURNS[] = {
+    {3, 1, 1}, {7, 40, 2}, {6, 29, 3}, {9, UINT64_MAX - 2, 3}, {1200, 31, 1200}, {1200, 31, 600},
 };
 
 /* As the profile wants it, in both orders. */
@@ -133,4 +152,6 @@ void seed_carriers(void (*take)(void *with, const uint8_t *bytes, size_t length)
     take(with, carrier, pair(carrier, 14, 11));
     for (i = 0; i < sizeof SHAPES / sizeof SHAPES[0]; i++)
         take(with, carrier, seed_carrier(carrier, SHAPES[i].payloads, SHAPES[i].body_length, SHAPES[i].is_wide));
+    for (i = 0; i < sizeof TURNS / sizeof TURNS[0]; i++)
+        take(with, carrier, turning_carrier(carrier, TURNS[i].payloads, TURNS[i].first, TURNS[i].ids));
 }

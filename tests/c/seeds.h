@@ -17,6 +17,9 @@ void seed_settings(uint8_t *settings, unsigned kind);
 /* A carrier of this many payloads with bodies of these lengths, ids and key ids of 64 bits where `is_wide`. Its length. */
 size_t seed_carrier(uint8_t *carrier, unsigned payloads, size_t body_length, int is_wide);
 
+/* A carrier of this many payloads without bodies, whose ids are so many numbers from `first` on, by turns. Its length. */
+size_t turning_carrier(uint8_t *carrier, unsigned payloads, uint64_t first, unsigned ids);
+
 /* A carrier of one payload, with a body of at most 255 bytes, which it has from its byte WRAPPED_AT on. Its length. */
 enum { WRAPPED_AT = 7, WRAPPED_MOST = 255 };
 size_t wrapped_carrier(uint8_t *carrier, const uint8_t *body, size_t body_length);

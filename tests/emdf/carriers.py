@@ -30,6 +30,9 @@ SMALL = {
     "sixteen": Carrier([(11, WANTED, bytes(range(16))), (14, WANTED, bytes(range(17)))]),
     "large": Carrier([(2**64 - 1, TIMED, bytes(300)), (31, WANTED, b"\x80")], 2**64 - 1, b"\x11" * 16, b"\x22" * 4),
     "both-of-16": Carrier([(1, TIMED, b"\xff" * 7)], 7, bytes(range(16)), bytes(range(16, 32))),
+    # Ids that stand more than once, of both forms, next to each other and apart.
+    "repeated": Carrier([(i, DISCARD, bytes([k])) for k, i in enumerate((40, 1, 40, 40, 1, 30, 2**64 - 1, 31, 2**64 - 1, 40))]),
+    "two-oamd": Carrier([(11, WANTED, b""), (14, WANTED, b""), (11, WANTED, b"")]),
     # A mark of the ruler is 1 bit up to 9 bytes, and then 2.
     "nine-bytes": Carrier([], 0, b"\xa5", b""),
     # Room for the places of the ruler: ten payloads a column or two apart.
@@ -79,7 +82,8 @@ def random_config(rng):
 def random_carrier(seed):
     rng = random.Random(seed)
     configs = [WANTED, BARE, random_config(rng), random_config(rng)]
-    idents = rng.sample([11, 14, 1, 30, 31, rng.randrange(1, 2**64)], rng.randrange(7))
+    chosen = [11, 14, 1, 30, 31, rng.randrange(1, 2**64)]
+    idents = rng.sample(chosen, rng.randrange(7)) if seed % 2 else rng.choices(chosen, k=rng.randrange(9))
     payloads = [(ident, rng.choice(configs), rng.randbytes(rng.choice([0, 1, 2, 16, 17, 300]))) for ident in idents]
     protections = [rng.randbytes(rng.choice(lengths)) for lengths in ((1, 4, 16), (0, 1, 4, 16))]
     return Carrier(payloads, rng.choice([0, 7, rng.randrange(2**64)]), *protections, rng.choice([b"", b"", b"\0", b"\xff" * 9]))

@@ -6,6 +6,7 @@ import sys
 import carriers
 import editing
 import errors
+import ordinals
 import recipes
 import said
 import usage
@@ -19,6 +20,8 @@ KINDS = (
     editing.spellings,
     editing.lengths,
     said.by_hand,
+    ordinals.by_hand,
+    ordinals.spellings,
     recipes.by_hand,
     recipes.wrong,
     recipes.allowed,
@@ -50,6 +53,10 @@ MANY = (
     editing.random_edits,
     editing.random_changes,
     editing.random_chains,
+    ordinals.bodies,
+    ordinals.edits,
+    ordinals.refusals,
+    ordinals.random_chains,
     recipes.unread,
     recipes.makes,
     recipes.shows,
@@ -64,6 +71,7 @@ FEW = (
     editing.readings,
     editing.random_changes,
     editing.random_chains,
+    ordinals.random_chains,
     recipes.makes,
     recipes.shows,
     recipes.applies,

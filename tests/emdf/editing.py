@@ -5,6 +5,7 @@ import random
 from forms import refusal_text
 from harness import case
 from models.edits import NAMES, Contents, refusal, ruled, settings, step
+from models.ordinals import find
 from models.profile import FIELDS, WANTED
 from models.refused import UNREAD, A
 
@@ -32,18 +33,33 @@ def setting_words(given):
     return ["%s=%s" % (TITLES[name], "absent" if value is None else value) for name, value in given.items()]
 
 
+def place_word(place):
+    """A place, or an id and an ordinal."""
+    return "%d#%d" % place if isinstance(place, tuple) else str(place)
+
+
 def words_of(edit, *given):
     """An edit with everything named."""
     if edit == "body":
-        return ["body", str(given[0]), hexadecimal(given[1])]
+        return ["body", place_word(given[0]), hexadecimal(given[1])]
     if edit == "settings":
-        return ["set", str(given[0])] + setting_words(given[1])
+        return ["set", place_word(given[0])] + setting_words(given[1])
     if edit == "insert":
         place, ident, config, body = given
-        return ["insert", str(place), "id=%d" % ident] + setting_words(config) + ["body=" + hexadecimal(body)]
+        return ["insert", place_word(place), "id=%d" % ident] + setting_words(config) + ["body=" + hexadecimal(body)]
     if edit == "protection":
         return ["protection", hexadecimal(given[0]), hexadecimal(given[1])]
-    return [edit, str(given[0])]
+    return [edit, place_word(given[0])]
+
+
+def step_named(contents, edit, *given):
+    """As step, where a place may be an id and an ordinal of what the edits before it left: then 24 stands for 16."""
+    if isinstance(given[0], tuple):
+        place = find(contents.payloads, *given[0])
+        if place is None:
+            return contents, 24
+        given = (place,) + given[1:]
+    return step(contents, edit, *given)
 
 
 def shown(words):
@@ -70,7 +86,7 @@ def chain_case(name, contents, edits, files=None, through_pipes=False):
     source = contents.carrier()
     words = [word for one, _ in edits for word in one]
     for n, (own, edit) in enumerate(edits, 1):
-        contents, number = step(contents, *edit)
+        contents, number = step_named(contents, *edit)
         if number:
             said = "emdf: edit %d, %s: refused, %s%s\n" % (n, shown(own), refusal_text(number), hint(number, *edit))
             break

@@ -1,6 +1,7 @@
 """What emdf is to say of a file, by its man page and the scope. Spans come from the writer that wrote the carrier, verdicts
 from the model of the profile, refusals are stated with the files that meet them."""
 from models.groups import largest
+from models.ordinals import ordinals, worded
 from models.profile import FIELDS, found, marks_word, verdict
 from models.refused import HEXADECIMAL, WORDS
 from models.writer import Writer
@@ -116,6 +117,7 @@ class Carrier:
         self.carrier = w.carrier()
         self.data = self.carrier + more
         self.groups = largest(key, payloads)
+        self.ordinals = ordinals(payloads)
         self.verdicts = {profile: verdict(profile, [payload[:2] for payload in payloads]) for profile in ("strict", "compat")}
 
     def spans(self):
@@ -154,7 +156,7 @@ class Carrier:
     def info_lines(self, name):
         lines = ["%s: %s" % (name, self.class_text()), self.container_line()] + self.ruler_lines()
         for place, payload in enumerate(self.payloads):
-            lines += payload_lines(place, payload, self.places[place])
+            lines += payload_lines(place, payload, self.ordinals[place], self.places[place])
         return lines + ["  " + verdict_text(*judged) for judged in self.verdicts.items()]
 
     def info_json(self, name):
@@ -170,7 +172,8 @@ class Carrier:
             "spans": before | after,
         }
         said = {"file": name, "bytes": len(self.data), "class": "trailing-data" if self.more else "parsed"}
-        payloads = [payload_json(place, payload, self.places[place]) for place, payload in enumerate(self.payloads)]
+        rows = zip(self.payloads, self.ordinals, self.places)
+        payloads = [payload_json(place, *row) for place, row in enumerate(rows)]
         verdicts = {profile: verdict_json(profile, given) for profile, given in self.verdicts.items()}
         return said | {"container": container, "payloads": payloads} | verdicts
 
@@ -188,7 +191,7 @@ class Carrier:
         return {"file": name, "bytes": len(self.data), "trailing_bytes": len(self.more), "verdict": said}
 
 
-def payload_lines(place, payload, starts):
+def payload_lines(place, payload, ordinal, starts):
     ident, config, body = payload
     settings = found(config)
     present = ["%s=%d" % (title, settings[name]) for name, title, _ in FIELDS if settings[name] is not None]
@@ -196,19 +199,20 @@ def payload_lines(place, payload, starts):
     at = "at bit %d" % starts[3] if starts[3] % 8 else "at byte %d" % (starts[3] // 8)
     first = (": " + body[:16].hex() if body else "") + (".." if len(body) > 16 else "")
     return [
-        "  payload %d: id %d%s" % (place, ident, " (%s)" % NAMES[ident] if ident in NAMES else ""),
+        "  payload %d: id %d (%s)%s" % (place, ident, worded(ordinal), ", " + NAMES[ident] if ident in NAMES else ""),
         "    settings: " + " ".join(present),
         "    spans: " + ", ".join(spans),
         "    body: %s %s%s" % (counted(len(body), "byte"), at, first),
     ]
 
 
-def payload_json(place, payload, starts):
+def payload_json(place, payload, ordinal, starts):
     ident, config, body = payload
     settings = found(config)
     return {
         "place": place,
         "id": ident,
+        "ordinal": ordinal,
         "name": NAMES.get(ident),
         "settings": {title: settings[name] for name, title, _ in FIELDS},
         "spans": dict(zip(PARTS, map(list, zip(starts, starts[1:])))),

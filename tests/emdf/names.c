@@ -89,15 +89,33 @@ static void check_refusals(void)
 {
     const char *unlisted = emdf_refusal_text(UINT32_MAX);
     uint32_t number;
-    for (number = 0; number <= EMDF_INVALID_RECORD; number++)
+    for (number = 0; number <= EMDF_NO_SUCH_ORDINAL; number++)
         expect(emdf_refusal_text(number) != unlisted, "a refusal without words");
-    expect(emdf_refusal_text(EMDF_INVALID_RECORD + 1) == unlisted, "a refusal that emdf.h hasn't");
+    expect(emdf_refusal_text(EMDF_NO_SUCH_ORDINAL + 1) == unlisted, "a refusal that emdf.h hasn't");
     expect(strcmp(emdf_refusal_text(EMDF_TRUNCATED_HEADER), emdf_refusal_text(EMDF_TRUNCATED_CONTAINER)), "1 and 21 in other words");
     expect(strcmp(emdf_refusal_text(EMDF_BROKEN_CHAIN), emdf_refusal_text(EMDF_INVALID_RECORD)), "22 and 23 in other words");
     expect(!emdf_refusal_figure(EMDF_BROKEN_CHAIN, 0) && !emdf_refusal_figure(EMDF_INVALID_RECORD, 0), "22 and 23 have no figure");
+    expect(strcmp(emdf_refusal_text(EMDF_NO_SUCH_ORDINAL), emdf_refusal_text(EMDF_NO_SUCH_PLACE)), "16 and 24 in other words");
+    expect(!emdf_refusal_figure(EMDF_NO_SUCH_ORDINAL, 0), "24 has no figure");
     expect(!strcmp(emdf_refusal_text(EMDF_NONZERO_PADDING), "padding is not zero"), "12 in words");
     expect(!strcmp(emdf_refusal_figure(EMDF_CONFIGURATION, 1), "deviations"), "15's second figure");
     expect(!emdf_refusal_figure(EMDF_EXCESS_PADDING, 1) && !emdf_refusal_figure(EMDF_EXCESS_PADDING, 2), "11 has one figure");
+}
+
+static void check_endings(void)
+{
+    static const struct {
+        uint64_t ordinal;
+        const char *ending;
+    } typed[] = {
+        {0, "th"},   {1, "st"},   {2, "nd"},   {3, "rd"},   {4, "th"},   {9, "th"},    {10, "th"},   {11, "th"},
+        {12, "th"},  {13, "th"},  {14, "th"},  {19, "th"},  {20, "th"},  {21, "st"},   {22, "nd"},   {23, "rd"},
+        {24, "th"},  {100, "th"}, {101, "st"}, {102, "nd"}, {103, "rd"}, {110, "th"},  {111, "th"},  {112, "th"},
+        {113, "th"}, {114, "th"}, {121, "st"}, {122, "nd"}, {123, "rd"}, {1011, "th"}, {1021, "st"}, {UINT64_MAX, "th"},
+    };
+    size_t i;
+    for (i = 0; i < sizeof typed / sizeof *typed; i++)
+        expect(!strcmp(emdf_ordinal_ending(typed[i].ordinal), typed[i].ending), typed[i].ending);
 }
 
 /* A payload more in a carrier; what it then is takes the place of what it was. */
@@ -129,6 +147,7 @@ int main(void)
     check_marks();
     check_settings();
     check_refusals();
+    check_endings();
     check_constants();
     return failures != 0;
 }

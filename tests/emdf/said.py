@@ -102,7 +102,7 @@ INFO_OF_B = b"""b: parsed: one carrier of 11 bytes
   ruler, 2 bits a mark: h sync word and length, k version and key id, i id, s settings, z size, b body, e end mark, c protection codes, p protection, x padding
     hhhhhhhhhhhhhhhhkkkiissszzzzbbbbeeeccppppxxx
                       0
-  payload 0: id 1
+  payload 0: id 1 (1st)
     settings: codec_data_present=0 discard_unknown_payload=1
     spans: id 37..42, settings 42..47, size 47..56, body 56..64
     body: 1 byte at byte 7: c3

@@ -14,6 +14,9 @@ usage: emdf recipe apply FILE RECIPE -o OUT""",
 }
 OF_ALL = "usage: emdf info|verdict|body|blank|edit|recipe ..; emdf --help says more"
 NO_NUMBERS = ("", "-", "-1", "+1", " 0", "0 ", "0x0", "1.0", "18446744073709551616", "0" * 90 + "18446744073709551616", "a", "１")
+# What is neither a place nor an id and an ordinal.
+NO_ORDINALS = ("#", "40#", "#2", "40#2#", "40#2#1", "##2", "40##2", "40#-1", "-40#2", "40# 2", "40 #2", "0x28#2", "40#2nd", "40,2") + (
+    "18446744073709551616#1", "1#18446744073709551616")
 NO_HEX = ("", "c", "c3c", "0g", "g0", "0/", "0:", "0@", "0`", "--", "c3 c3", "0xc3")
 NAMES = """sample_offset duration group_id codec_data_present discard_unknown_payload payload_frame_aligned create_duplicate
 remove_duplicate priority processing_allowed""".split()
@@ -41,8 +44,8 @@ def of_files():
 def of_body():
     for words in ([], ["in"], ["in", "0", "0"], ["in", "-o", "out"]):
         yield mistake("body", words, "a file and a place are wanted")
-    for number in NO_NUMBERS:
-        yield mistake("body", ["in", number, "-o", "out"], "no place: " + number)
+    for place in NO_NUMBERS + NO_ORDINALS:
+        yield mistake("body", ["in", place, "-o", "out"], "no place, and no ID#ORDINAL: " + place)
     yield mistake("body", ["in", "0", "-o"], "-o wants a file's name")
     yield mistake("body", ["in", "0", "-o", ""], "-o wants a file's name")
     yield mistake("body", ["-o", "x", "in", "0", "-o", "y"], "-o stands twice")
@@ -70,7 +73,7 @@ def of_edit():
     yield mistake("edit", ["in", "-o", "x", "drop", "0", "-o", "x"], "-o stands twice")
     for word in ("", "Drop", "drop0", "dro", "drops", "settings", "blank", "0"):
         yield mistake("edit", ["in", "-o", "out", word, "0"], "no such edit: " + word)
-    yield mistake("edit", ["in", "-o", "out", "drop", "0", "key", "0", "body"], "body wants a place: a number, from 0 on")
+    yield mistake("edit", ["in", "-o", "out", "drop", "0", "key", "0", "body"], "body wants a place: a number, from 0 on, or ID#ORDINAL")
 
 
 def edit_mistake(words, said):
@@ -78,12 +81,12 @@ def edit_mistake(words, said):
 
 
 def of_each_edit():
-    place = " wants a place: a number, from 0 on"
+    place = " wants a place: a number, from 0 on, or ID#ORDINAL"
     for edit, rest in (("drop", []), ("body", ["c3"]), ("set", ["priority=0"]), ("insert", ["id=1"])):
         yield edit_mistake([edit], edit + place)
         yield edit_mistake([edit, "drop", "0"], edit + place)
-        for number in NO_NUMBERS:
-            yield edit_mistake([edit, number] + rest, edit + place)
+        for word in NO_NUMBERS + NO_ORDINALS:
+            yield edit_mistake([edit, word] + rest, edit + place)
     for extra in ("0", "", "c3"):
         yield edit_mistake(["drop", "0", extra], "drop wants a place alone")
     yield edit_mistake(["body", "0"], "body wants a place and a body")
@@ -147,11 +150,19 @@ def of_make():
             said = "a place in a recipe is at most 4294967295: " + number
             yield make_mistake(words, said)
             yield make_mistake(["key", "4294967296"] + words + ["drop", "0"], said)
+    for name in ("40#2", "0#0", "18446744073709551615#1"):
+        said = "a recipe has no carrier to find %s in: name its place" % name
+        for words in (["drop", name], ["body", name, "c3"]):
+            yield make_mistake(words, said)
+            yield make_mistake(["drop", "1"] + words + ["key", "0"], said)
+        yield make_mistake(["key", name], "key wants a key id: a number")
+        yield edit_mistake(["key", name], "key wants a key id: a number")
+        yield edit_mistake(["insert", "0", "id=" + name], "insert wants id=NUMBER")
     for word in ("", "Drop", "blank", "0", "in"):
         yield make_mistake([word, "0"], "no such edit: " + word)
     for number in NO_NUMBERS:
         for words in (["drop", number], ["body", number, "c3"]):
-            yield make_mistake(words, words[0] + " wants a place: a number, from 0 on")
+            yield make_mistake(words, words[0] + " wants a place: a number, from 0 on, or ID#ORDINAL")
         yield make_mistake(["key", number], "key wants a key id: a number")
     for digits in NO_HEX:
         yield make_mistake(["body", "0", digits], "body wants a body: pairs of hexadecimal digits, - for none, or @FILE")

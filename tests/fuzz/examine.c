@@ -6,6 +6,7 @@
 
 #include "groups_model.h"
 #include "lent.h"
+#include "ordinals_model.h"
 #include "recipe_model.h"
 
 enum {
@@ -73,7 +74,8 @@ static void print_request(const struct request *r)
     printf("  source    %zu bytes\n", r->source.length);
     printf("  position  %zu, end %zu, count %zu, width %u, limit %u\n", r->position, r->end, r->count, (unsigned)r->width,
            (unsigned)r->limit);
-    printf("  place     %zu, number %llu, profile %lu\n", r->place, (unsigned long long)r->number, (unsigned long)r->profile);
+    printf("  place     %zu, number %llu, ordinal %llu, profile %lu\n", r->place, (unsigned long long)r->number,
+           (unsigned long long)r->ordinal, (unsigned long)r->profile);
     printf("  body      %zu bytes (or recipe), settings %zu bytes\n", r->body.length, r->settings.length);
     printf("  room      %zu bytes, second %zu bytes\n", present_room, r->second_length);
 }
@@ -230,6 +232,27 @@ static void check_groups(const struct request *r, const struct outcome *o, const
         failed("another number of groups than were read");
 }
 
+/* ---- ordinals */
+
+static void check_ordinal(void *with, size_t place, uint64_t ordinal)
+{
+    const struct reading *own = with;
+
+    if (emdf_word(row_of(own, place), EMDF_ROW_ORDINAL) != ordinal)
+        failed("a row has another ordinal than its id's count");
+}
+
+static void check_found(const struct request *r, const struct outcome *o, const struct reading *own)
+{
+    size_t place = place_of_ordinal(own, r->number, r->ordinal);
+    int is_there = own->number == 0 && place < emdf_word(own->answer, EMDF_PAYLOADS);
+
+    if (own->number == 0 && o->number != (is_there ? EMDF_ACCEPTED : EMDF_NO_SUCH_ORDINAL))
+        failed("24 does not tell an id and ordinal that no payload has");
+    if (own->number == 0 && (emdf_word(o->answer, EMDF_FOUND_PLACE) != (is_there ? place : 0) || emdf_word(o->answer, 1) != 0))
+        failed("another place than that of the id and ordinal");
+}
+
 /* ---- readings */
 
 static void read_carrier(const uint8_t *bytes, size_t length, struct reading *own, uint8_t *table)
@@ -247,6 +270,7 @@ static void read_carrier(const uint8_t *bytes, size_t length, struct reading *ow
     memcpy(table, o.bytes, o.filled);
     own->rows = table;
     check_groups(&r, &o, own);
+    each_ordinal(own, check_ordinal, own);
 }
 
 static void check_class(const struct outcome *o, const struct reading *own, const struct slice *s)
@@ -597,6 +621,8 @@ static void examine_call(const struct request *r, const struct input *in, const 
         check_reading(r, &o, own);
     if (has_groups(r->call))
         check_groups(r, &o, own);
+    if (r->call == FIND_PAYLOAD)
+        check_found(r, &o, own);
     if (is_edit(r->call) && o.number == 0)
         check_edit(r, &o, own);
 }

@@ -411,6 +411,138 @@ static uint32_t counts_for_refused_verdict(const struct request *r)
     return number;
 }
 
+/* ---- ordinals that are wrong, and places that they are found at */
+
+/* What the row at a place gets for its ordinal. */
+typedef uint64_t (*numbering)(const uint8_t *rows, size_t place, uint64_t ordinal);
+
+static uint32_t call_numbering(const struct request *r, numbering number_anew)
+{
+    uint32_t number = make_call(r);
+    size_t count = r->call == READ && number == 0 ? (size_t)emdf_word(r->answer, EMDF_PAYLOADS) : 0, place;
+
+    for (place = 0; place < count; place++) {
+        uint8_t *row = r->room + place * EMDF_ROW_BYTES;
+        emdf_set_word(row, EMDF_ROW_ORDINAL, number_anew(r->room, place, emdf_word(row, EMDF_ROW_ORDINAL)));
+    }
+    return number;
+}
+
+static uint64_t one_less(const uint8_t *rows, size_t place, uint64_t ordinal)
+{
+    (void)rows;
+    (void)place;
+    return ordinal - 1;
+}
+
+static uint32_t numbers_from_0(const struct request *r)
+{
+    return call_numbering(r, one_less);
+}
+
+static uint64_t over_all_ids(const uint8_t *rows, size_t place, uint64_t ordinal)
+{
+    (void)rows;
+    (void)ordinal;
+    return place + 1;
+}
+
+static uint32_t numbers_over_all_ids(const struct request *r)
+{
+    return call_numbering(r, over_all_ids);
+}
+
+/* As if all ids with the escape were one. */
+static uint64_t escaped_as_one(const uint8_t *rows, size_t place, uint64_t ordinal)
+{
+    uint64_t count = 1;
+    size_t i;
+
+    if (emdf_word(rows + place * EMDF_ROW_BYTES, EMDF_ROW_ID) < 31)
+        return ordinal;
+    for (i = 0; i < place; i++)
+        count += emdf_word(rows + i * EMDF_ROW_BYTES, EMDF_ROW_ID) >= 31;
+    return count;
+}
+
+static uint32_t numbers_escaped_ids_as_one(const struct request *r)
+{
+    return call_numbering(r, escaped_as_one);
+}
+
+/* As if nothing were counted beyond two. */
+static uint64_t two_at_most(const uint8_t *rows, size_t place, uint64_t ordinal)
+{
+    (void)rows;
+    (void)place;
+    return ordinal > 2 ? 2 : ordinal;
+}
+
+static uint32_t numbers_up_to_2(const struct request *r)
+{
+    return call_numbering(r, two_at_most);
+}
+
+static uint32_t finds_one_too_far(const struct request *r)
+{
+    uint32_t number = make_call(r);
+
+    if (r->call == FIND_PAYLOAD && number == 0)
+        emdf_set_word(r->answer, EMDF_FOUND_PLACE, emdf_word(r->answer, EMDF_FOUND_PLACE) + 1);
+    return number;
+}
+
+/* As if the ordinal were another one. */
+static uint32_t call_with_ordinal(const struct request *r, uint64_t ordinal)
+{
+    struct request other = *r;
+
+    other.ordinal = ordinal;
+    return make_call(&other);
+}
+
+static uint32_t finds_from_0(const struct request *r)
+{
+    return call_with_ordinal(r, r->ordinal + 1);
+}
+
+static uint32_t finds_the_first_for_0(const struct request *r)
+{
+    return call_with_ordinal(r, r->ordinal == 0 ? 1 : r->ordinal);
+}
+
+static uint32_t finds_by_32_bits(const struct request *r)
+{
+    return call_with_ordinal(r, (uint32_t)r->ordinal);
+}
+
+static uint32_t finds_by_32_bits_of_id(const struct request *r)
+{
+    struct request other = *r;
+
+    if (r->call == FIND_PAYLOAD)
+        other.number = (uint32_t)r->number;
+    return make_call(&other);
+}
+
+static uint32_t answers_16_for_24(const struct request *r)
+{
+    uint32_t number = make_call(r);
+
+    return number == EMDF_NO_SUCH_ORDINAL ? EMDF_NO_SUCH_PLACE : number;
+}
+
+/* Looks for the payload before all of the carrier is read. */
+static uint32_t finds_in_damaged(const struct request *r)
+{
+    uint32_t number = make_call(r);
+
+    if (r->call != FIND_PAYLOAD || number != EMDF_NONZERO_PADDING)
+        return number;
+    memset(r->answer, 0, EMDF_FIND_ANSWER_BYTES);
+    return EMDF_NO_SUCH_ORDINAL;
+}
+
 /* ---- recipes that are checked wrongly */
 
 /* Leads along the chain as far as it is one: the record after a record, which may be the first of all, or 0. */
@@ -716,6 +848,17 @@ const struct fault FAULTS[] = {
     {"counts the bits that say more", counts_more_bits},
     {"counts the groups of a refused field", counts_refused_groups},
     {"counts the groups for a refused verdict", counts_for_refused_verdict},
+    {"numbers payloads of an id from 0", numbers_from_0},
+    {"numbers payloads over all ids", numbers_over_all_ids},
+    {"numbers all escaped ids as one", numbers_escaped_ids_as_one},
+    {"numbers payloads up to 2", numbers_up_to_2},
+    {"finds the place after a payload's", finds_one_too_far},
+    {"finds payloads from ordinal 0 on", finds_from_0},
+    {"finds the first payload for ordinal 0", finds_the_first_for_0},
+    {"finds payloads by 32 bits of the ordinal", finds_by_32_bits},
+    {"finds payloads by 32 bits of the id", finds_by_32_bits_of_id},
+    {"answers 16 for 24", answers_16_for_24},
+    {"answers 24 for a carrier that does not read", finds_in_damaged},
     {"does not end", ends_never},
     {"takes a next index that is the record's own", takes_own_index},
     {"adds offset and length in 32 bits", adds_in_32_bits},

@@ -1,6 +1,6 @@
-/* What emdf.h says of its version, of protections that edits clear, of numbers of groups, and of slices. Length 0 with NULL is an
-   empty slice, in each argument of each call: what has to come out was taken from the scope. Slices that are only read may
-   overlap: the call answers as if they lay apart. */
+/* What emdf.h says of its version, of protections that edits clear, of numbers of groups, of ordinals, and of slices. Length 0
+   with NULL is an empty slice, in each argument of each call: what has to come out was taken from the scope. Slices that are only
+   read may overlap: the call answers as if they lay apart. */
 #include <stdio.h>
 #include <string.h>
 
@@ -22,6 +22,22 @@ static const uint8_t A5[] = {0xa5}, C3[] = {0xc3};
    deviations that compat lets pass. */
 static const uint8_t FIVE_GROUPS[] = {0x58, 0x38, 0x00, 0x06, 0x38, 0x88, 0x88, 0x01, 0x29, 0x40};
 static const uint8_t PAIR[] = {0x58, 0x38, 0x00, 0x0a, 0x02, 0xc8, 0x00, 0x07, 0x10, 0x40, 0x00, 0x00, 0x25, 0x28};
+
+/* Payloads with the ids 40, 1 and 40: after 5 bits of version and key id each has its id (11 bits, 5 bits), settings of five bits
+   with discard, and a size of nine for no body. Then the same with a byte after it. And the three rows, from the first number of
+   bits on: where the id starts and ends, and where settings, size and body end. */
+#define REPEATED_BYTES 0x58, 0x38, 0x00, 0x0c, 0x07, 0xd2, 0x08, 0x00, 0x21, 0x00, 0x7d, 0x20, 0x80, 0x00, 0x94, 0xa0
+static const uint8_t REPEATED[] = {REPEATED_BYTES}, REPEATED_AND_MORE[] = {REPEATED_BYTES, 0xff};
+#define WORD(v) 0, 0, 0, 0, 0, 0, 0, v
+#define WORDS_5(v) WORD(v), WORD(v), WORD(v), WORD(v), WORD(v)
+#define ROW(id, start, end, settings, size, body, ordinal) \
+    WORD(id), WORDS_5(0), WORD(0), WORD(0), WORD(1), WORDS_5(0), WORDS_5(0), WORD(start), WORD(end), WORD(end), WORD(settings), \
+        WORD(settings), WORD(size), WORD(size), WORD(body), WORD(ordinal)
+static const uint8_t ROWS[] = {
+    ROW(40, 37, 48, 53, 62, 62, 1),
+    ROW(1, 62, 67, 72, 81, 81, 1),
+    ROW(40, 81, 92, 97, 106, 106, 2),
+};
 
 /* Recipes: without an edit; drop(0); body(0, empty) and then drop(0), which make B_EMPTY and CLEARED_A of B; a record outside the
    file; a kind that isn't listed. */
@@ -92,6 +108,8 @@ static void expect(const char *call, uint32_t number, size_t answer_bytes, const
 #define FIELD(call, ...) expect(#call, call, EMDF_FIELD_ANSWER_BYTES, NONE, WORDS(__VA_ARGS__))
 #define CLASS(call, ...) expect(#call, call, EMDF_CLASS_ANSWER_BYTES, NONE, WORDS(__VA_ARGS__))
 #define READING(call, ...) expect(#call, call, EMDF_READ_ANSWER_BYTES, NONE, WORDS(__VA_ARGS__))
+#define TABLE(rows, call, ...) expect(#call, call, EMDF_READ_ANSWER_BYTES, rows, sizeof(rows), WORDS(__VA_ARGS__))
+#define FOUND(call, ...) expect(#call, call, EMDF_FIND_ANSWER_BYTES, NONE, WORDS(__VA_ARGS__))
 #define BODY(call, ...) expect(#call, call, EMDF_MOVE_ANSWER_BYTES, NONE, WORDS(__VA_ARGS__))
 #define VERDICT(call, ...) expect(#call, call, EMDF_VERDICT_ANSWER_BYTES, NONE, WORDS(__VA_ARGS__))
 #define REFUSED(call, ...) expect(#call, call, EMDF_EDIT_ANSWER_BYTES, NONE, WORDS(__VA_ARGS__))
@@ -149,6 +167,35 @@ static void check_groups(void)
     VERDICT(emdf_verdict(OF(PAIR), EMDF_COMPAT, answer), EMDF_ACCEPTED, 0, 1, 0x0023e8, 1, 1);
     VERDICT(emdf_verdict(OF(PAIR), EMDF_STRICT, answer), EMDF_CONFIGURATION, 0x0023e8, 7, 0, 0, 0);
     VERDICT(emdf_verdict(OF(B), EMDF_COMPAT, answer), EMDF_PAYLOAD_COUNT, 0, 0, 0, 0, 0);
+}
+
+/* The rows of a table whose ids repeat; and the places by id and ordinal, with 24 for all that no payload has. */
+static void check_ordinals(void)
+{
+    uint8_t short_table[2 * EMDF_ROW_BYTES];
+    TABLE(ROWS, emdf_read(OF(REPEATED), OF(room), answer), EMDF_ACCEPTED, sizeof REPEATED, 0, 3, 1, 0, 0xa5, 0, 0, 0, 1);
+    TABLE(ROWS, emdf_read(OF(REPEATED), room, sizeof ROWS, answer), EMDF_ACCEPTED, sizeof REPEATED, 0, 3, 1, 0, 0xa5, 0, 0, 0, 1);
+    READING(emdf_read(OF(REPEATED), room, sizeof ROWS - 1, answer), EMDF_TABLE_TOO_SHORT, 3);
+    READING(emdf_read(OF(REPEATED), OF(short_table), answer), EMDF_TABLE_TOO_SHORT, 3);
+    FOUND(emdf_find_payload(OF(REPEATED), 40, 1, answer), EMDF_ACCEPTED, 0);
+    FOUND(emdf_find_payload(OF(REPEATED), 1, 1, answer), EMDF_ACCEPTED, 1);
+    FOUND(emdf_find_payload(OF(REPEATED), 40, 2, answer), EMDF_ACCEPTED, 2);
+    FOUND(emdf_find_payload(OF(REPEATED), 40, 3, answer), EMDF_NO_SUCH_ORDINAL);
+    FOUND(emdf_find_payload(OF(REPEATED), 1, 2, answer), EMDF_NO_SUCH_ORDINAL);
+    FOUND(emdf_find_payload(OF(REPEATED), 40, 0, answer), EMDF_NO_SUCH_ORDINAL);
+    FOUND(emdf_find_payload(OF(REPEATED), 2, 1, answer), EMDF_NO_SUCH_ORDINAL);
+    FOUND(emdf_find_payload(OF(REPEATED), 0, 1, answer), EMDF_NO_SUCH_ORDINAL);
+    FOUND(emdf_find_payload(OF(REPEATED), 0, 0, answer), EMDF_NO_SUCH_ORDINAL);
+    FOUND(emdf_find_payload(OF(REPEATED), UINT64_MAX, UINT64_MAX, answer), EMDF_NO_SUCH_ORDINAL);
+    FOUND(emdf_find_payload(OF(REPEATED), 40, UINT64_C(1) << 32 | 1, answer), EMDF_NO_SUCH_ORDINAL);
+    FOUND(emdf_find_payload(OF(REPEATED), UINT64_C(1) << 32 | 40, 1, answer), EMDF_NO_SUCH_ORDINAL);
+    FOUND(emdf_find_payload(OF(REPEATED_AND_MORE), 40, 2, answer), EMDF_ACCEPTED, 2);
+    FOUND(emdf_find_payload(OF(REPEATED_AND_MORE), 40, 3, answer), EMDF_NO_SUCH_ORDINAL);
+    FOUND(emdf_find_payload(REPEATED, sizeof REPEATED - 1, 40, 1, answer), EMDF_TRUNCATED_CONTAINER, 12, 11);
+    FOUND(emdf_find_payload(REPEATED, 3, 0, 0, answer), EMDF_TRUNCATED_HEADER, 4, 3);
+    FOUND(emdf_find_payload(NONE, 1, 1, answer), EMDF_TRUNCATED_HEADER, 4, 0);
+    FOUND(emdf_find_payload(OF(A), 1, 1, answer), EMDF_NO_SUCH_ORDINAL);
+    FOUND(emdf_find_payload(OF(B), 1, 1, answer), EMDF_ACCEPTED, 0);
 }
 
 static void check_sources(void)
@@ -359,6 +406,7 @@ int main(void)
     check_bits();
     check_carriers();
     check_groups();
+    check_ordinals();
     check_sources();
     check_contents();
     check_protections();
@@ -367,7 +415,7 @@ int main(void)
     check_runs();
     check_overlaps();
     check_recipe_overlaps();
-    printf("host: the version, cleared protections, groups, slices that are empty or overlap: %u checks, %u failures\n", checks,
-           failures);
+    printf("host: the version, cleared protections, groups, ordinals, slices that are empty or overlap: %u checks, %u failures\n",
+           checks, failures);
     return failures != 0;
 }

@@ -22,6 +22,7 @@ WORDS = {
     21: ("fewer bytes than a header has", "needed", "available"),
     22: ("the recipe's chain is broken",),
     23: ("a record of the recipe is not of the form",),
+    24: ("no payload with that id and ordinal",),
 }
 
 # Figures that are shown as bits.

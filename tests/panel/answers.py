@@ -1,6 +1,7 @@
 """What the panel is to answer of a file, by the scope. No code of the library or of the panel is used: spans come from
 the writer that wrote the carrier, verdicts from the model of the profile, refusals are stated with the carriers that meet them."""
 from models.groups import largest
+from models.ordinals import ordinals, worded
 from models.profile import FIELDS, found, marks_word, verdict
 from models.refused import HEXADECIMAL, WORDS
 from models.writer import Writer
@@ -71,8 +72,8 @@ class Carrier:
     def stream(self):
         protection = (self.primary.hex(), self.secondary.hex() or "none")
         lines = ["container %s primary=%s secondary=%s" % ((self.reading(),) + protection)]
-        for place, (payload, places) in enumerate(zip(self.payloads, self.places)):
-            lines += payload_lines(place, payload, places)
+        for place, row in enumerate(zip(self.payloads, ordinals(self.payloads), self.places)):
+            lines += payload_lines(place, *row)
         return lines
 
     def commit(self, profile):
@@ -83,12 +84,12 @@ class Carrier:
         return [form % ((profile,) + is_.places + (marks_word(is_.deviations), len(is_.deviations)))]
 
 
-def payload_lines(place, payload, places):
+def payload_lines(place, payload, ordinal, places):
     ident, config, body = payload
     present = ["%s=%d" % (title, found(config)[name]) for name, title, _ in FIELDS if found(config)[name] is not None]
     spans = ["%s=%d..%d" % span for span in zip(("id", "settings", "size", "body"), places, places[1:])]
     return [
-        "payload %d id=%d" % (place, ident),
+        "payload %d id=%d (%s)" % (place, ident, worded(ordinal)),
         "  settings " + " ".join(present),
         "  spans " + " ".join(spans),
         "  ruler " + ruler(places),

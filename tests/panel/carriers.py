@@ -28,6 +28,8 @@ FILES = {
     "pair-and-more": Carrier([(11, WANTED, b""), (14, WANTED, b"")], more=b"\xff\xff"),
     "joc-alone": Carrier([(14, WANTED, b"")]),
     "two-oamd": Carrier([(11, WANTED, b""), (11, WANTED, b""), (14, WANTED, b"")]),
+    # Ids that stand more than once, of both forms, next to each other and apart.
+    "repeated": Carrier([(ident, DISCARD, b"") for ident in (40, 1, 40, 40, 1, 30, 2**64 - 1, 31, 2**64 - 1, 40)]),
     "group-ids-differ": Carrier([(11, WANTED, b""), (14, WANTED | {"group_id": 4}, b"")]),
     "one-group-id": Carrier([(11, WANTED, b""), (14, WANTED | {"group_id": None}, b"")]),
     "no-group-id": Carrier([(11, WANTED | {"group_id": None}, b""), (14, WANTED | {"group_id": None}, b"")]),
@@ -69,7 +71,8 @@ def random_config(rng):
 def random_carrier(seed):
     rng = random.Random(seed)
     configs = [WANTED, BARE, random_config(rng), random_config(rng)]
-    idents = rng.sample([11, 14, 1, 30, 31, rng.randrange(1, 2**64)], rng.randrange(7))
+    chosen = [11, 14, 1, 30, 31, rng.randrange(1, 2**64)]
+    idents = rng.sample(chosen, rng.randrange(7)) if seed % 2 else rng.choices(chosen, k=rng.randrange(9))
     payloads = [(ident, rng.choice(configs), rng.randbytes(rng.choice([0, 1, 16, 17, 300]))) for ident in idents]
     protections = [rng.randbytes(rng.choice(lengths)) for lengths in ((1, 4, 16), (0, 1, 4, 16))]
     return Carrier(payloads, rng.choice([0, 7, rng.randrange(2**64)]), *protections, rng.choice([b"", b"", b"\0", b"\xff" * 9]))

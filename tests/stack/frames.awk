@@ -34,11 +34,11 @@ $1 !~ /^[0-9a-f]+:$/ { next }
 
 $2 == "push" { pushed[name]++ }
 
+# A frame of more than a page is taken in parts.
 $2 == "sub" && $3 ~ /^\$0x[0-9a-f]+,%rsp$/ {
     sub(/^\$/, "", $3)
     sub(/,.*/, "", $3)
-    size = hex($3)
-    taken[name] = size > taken[name] ? size : taken[name]
+    taken[name] += hex($3)
 }
 
 # A jump into another function is a call, too.

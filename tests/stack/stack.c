@@ -17,15 +17,16 @@
 #error "the stack is measured by breakpoints of x86-64"
 #endif
 
-enum { STACK = 1 << 15, ROOM = SOURCE_MOST + 600 * EMDF_ROW_BYTES };
+enum { STACK = 1 << 15, ROOM = SOURCE_MOST + 1200 * EMDF_ROW_BYTES };
 
 typedef void (*code)(void);
 
 static const code ENTRIES[CALLS] = {
     (code)emdf_bit_cursor, (code)emdf_bits_remaining, (code)emdf_read_bits, (code)emdf_read_bit, (code)emdf_take_bits,
-    (code)emdf_byte_align, (code)emdf_variable_bits, (code)emdf_classify, (code)emdf_read, (code)emdf_move_body,
-    (code)emdf_verdict, (code)emdf_edit_body, (code)emdf_edit_settings, (code)emdf_edit_drop, (code)emdf_edit_insert,
-    (code)emdf_edit_key, (code)emdf_edit_protection, (code)emdf_blank, (code)emdf_check_recipe, (code)emdf_run_recipe,
+    (code)emdf_byte_align, (code)emdf_variable_bits, (code)emdf_classify, (code)emdf_read,
+    (code)emdf_find_payload, (code)emdf_move_body, (code)emdf_verdict, (code)emdf_edit_body, (code)emdf_edit_settings,
+    (code)emdf_edit_drop, (code)emdf_edit_insert, (code)emdf_edit_key, (code)emdf_edit_protection, (code)emdf_blank,
+    (code)emdf_check_recipe, (code)emdf_run_recipe,
 };
 
 struct measured {

@@ -1,4 +1,5 @@
-/* The time of each call on carriers and recipes of doubling length: eight times as much has to take some eight times as long. */
+/* The time of each call on carriers and recipes of doubling length: eight times as much has to take some eight times as long, but
+   for the ordinals of ids that have the escape and are all different, each of which may be looked for in all rows before it. */
 #include <stdio.h>
 #include <string.h>
 
@@ -7,6 +8,7 @@
 #include "recipes.h"
 #include "seeds.h"
 
+enum { ESCAPE = 31 }; /* the first id that has it */
 enum { SIZES = 4, ROUNDS = 15, ROOM = 4000 * EMDF_ROW_BYTES, EDITS_LEAST = 500, EDITS_MOST = EDITS_LEAST << (SIZES - 1) };
 
 struct shape {
@@ -15,14 +17,16 @@ struct shape {
     size_t body_length;
 };
 
-/* Many payloads without a body, and one with a long one. */
-static const struct shape SHAPES[2][SIZES] = {
+/* Many payloads without a body, one with a long one, and many of as many ids. */
+enum { PAYLOADS, BODY, ESCAPED_IDS, KINDS };
+static const struct shape SHAPES[KINDS][SIZES] = {
     {{"payloads", 500, 0}, {"payloads", 1000, 0}, {"payloads", 2000, 0}, {"payloads", 4000, 0}},
     {{"body", 1, 8000}, {"body", 1, 16000}, {"body", 1, 32000}, {"body", 1, 64000}},
+    {{"ids", 500, 0}, {"ids", 1000, 0}, {"ids", 2000, 0}, {"ids", 4000, 0}},
 };
 
-static uint8_t carriers[2][SIZES][EMDF_CARRIER_MOST];
-static size_t lengths[2][SIZES];
+static uint8_t carriers[KINDS][SIZES][EMDF_CARRIER_MOST];
+static size_t lengths[KINDS][SIZES];
 static uint8_t room[ROOM], second[ROOM], recipe[CHAIN_BYTES(EDITS_MOST)];
 
 /* In nanoseconds, the best of some rounds: what else runs on the machine only adds. */
@@ -38,6 +42,16 @@ static double time_of(struct request *r)
         best = i == 0 || taken < best ? taken : best;
     }
     return best;
+}
+
+/* The key id of an edit, or id and ordinal of the last payload: seed_carrier has 40 ids by turns, from 1 on. */
+static void put_numbers(struct request *r, int kind, unsigned payloads)
+{
+    r->number = 9;
+    if (r->call != FIND_PAYLOAD)
+        return;
+    r->number = kind == ESCAPED_IDS ? ESCAPE + payloads - 1 : 1 + (payloads - 1) % 40;
+    r->ordinal = kind == ESCAPED_IDS ? 1 : 1 + (payloads - 1) / 40;
 }
 
 static void time_call(enum call call, int kind)
@@ -59,7 +73,7 @@ static void time_call(enum call call, int kind)
         r.body.length = call == EDIT_PROTECTION ? 1 : sizeof body;
         r.settings.bytes = settings;
         r.settings.length = call == EDIT_PROTECTION ? 0 : sizeof settings;
-        r.number = 9;
+        put_numbers(&r, kind, SHAPES[kind][i].payloads);
         r.room = room;
         r.room_length = sizeof room;
         r.answer = answer;
@@ -98,18 +112,27 @@ static void time_recipe(enum call call)
     printf("  %5.1f\n", last / first);
 }
 
+static size_t make_carrier(uint8_t *carrier, int kind, const struct shape *shape)
+{
+    if (kind == ESCAPED_IDS)
+        return turning_carrier(carrier, shape->payloads, ESCAPE, shape->payloads);
+    return seed_carrier(carrier, shape->payloads, shape->body_length, 0);
+}
+
 int main(void)
 {
     int kind, i;
     unsigned call;
 
-    for (kind = 0; kind < 2; kind++)
+    for (kind = 0; kind < KINDS; kind++)
         for (i = 0; i < SIZES; i++)
-            lengths[kind][i] = seed_carrier(carriers[kind][i], SHAPES[kind][i].payloads, SHAPES[kind][i].body_length, 0);
+            lengths[kind][i] = make_carrier(carriers[kind][i], kind, &SHAPES[kind][i]);
     printf("%-22s %-10s %9s %9s %9s %9s  times\n", "call", "carrier", "1 (ns)", "2", "4", "8");
     for (call = CLASSIFY; call < BLANK; call++)
-        for (kind = 0; kind < 2; kind++)
+        for (kind = PAYLOADS; kind <= BODY; kind++)
             time_call(call, kind);
+    time_call(READ, ESCAPED_IDS);
+    time_call(FIND_PAYLOAD, ESCAPED_IDS);
     time_recipe(CHECK_RECIPE);
     time_recipe(RUN_RECIPE);
     return 0;

@@ -4,16 +4,20 @@ use Prim.Native.Nat.{ℕ, _*_, _/_}
 use mathlib.Core.List.{List, [], _∷_, _++_}
 use lib.ListN.{length, drop}
 use Rattle.emdf_format.specs.Reading.{reading}
-use Rattle.emdf_format.specs.Refusals.{refusalOf, recordsRefusal, bodyRefusal, figuresOf}
-use Rattle.emdf_format.specs.Calls.{recordsOf, inTable, Records, recorded, unrecorded, moveBody, foundAt, scratchAfter}
+use Rattle.emdf_format.specs.Refusals.{refusalOf, recordsRefusal, bodyRefusal, findRefusal, figuresOf}
+use Rattle.emdf_format.specs.Ordinals.{rowsOf}
+use Rattle.emdf_format.specs.Calls.{inTable, Records, recorded, unrecorded, moveBody, foundAt, scratchAfter}
 use Rattle.emdf_format.specs.declared.Figures.{Figures}
 use Rattle.emdf_format.specs.declared.Optional.{Optional}
 use Rattle.emdf_format.specs.declared.Optional.the-variants.{Absent, Present}
 use Rattle.emdf_format.specs.declared.EmdfPayloadConfig.{EmdfPayloadConfig}
 use Rattle.emdf_format.specs.declared.EmdfPayloadBitTrace.{EmdfPayloadBitTrace}
 use Rattle.emdf_format.specs.declared.PayloadRecord.{PayloadRecord}
+use Rattle.emdf_format.specs.declared.PayloadRow.{PayloadRow}
 use Rattle.emdf_format.specs.declared.BodyAnswer.{BodyAnswer}
 use Rattle.emdf_format.specs.declared.BodyAnswer.the-variants as BodyAnswer
+use Rattle.emdf_format.specs.declared.FindAnswer.{FindAnswer}
+use Rattle.emdf_format.specs.declared.FindAnswer.the-variants as FindAnswer
 use Rattle.openjoc_emdf.specs.Answers.{parsedEmdf}
 use Rattle.emdf_container.specs.declared.ProtectionBytes.{ProtectionBytes}
 use Rattle.openjoc_emdf.specs.declared.ParsedEmdf.{ParsedEmdf}
@@ -45,7 +49,7 @@ unfoldable pub readReply : Records → Reply
 readReply (recorded n c) = acceptedReply (parsedWords (parsedEmdf n c))
 readReply (unrecorded why) = refusedReply 10 (figuresOf (recordsRefusal why))
 
--- ---- the table: a row of 27 numbers a payload
+-- ---- the table: a row of 28 numbers a payload
 
 unfoldable pub optionalWords : Optional → List ℕ
 optionalWords Absent = 0 ∷ 0 ∷ []
@@ -79,13 +83,17 @@ traceWords t =
 unfoldable pub recordWords : PayloadRecord → List ℕ
 recordWords r = r .id ∷ configWords (r .config) ++ traceWords (r .trace)
 
-unfoldable pub rowsBytes : List PayloadRecord → List ℕ
+-- the ordinal stands last
+unfoldable pub rowWords : PayloadRow → List ℕ
+rowWords r = recordWords (r .payload) ++ (r .ordinal ∷ [])
+
+unfoldable pub rowsBytes : List PayloadRow → List ℕ
 rowsBytes [] = []
-rowsBytes (r ∷ rs) = words (recordWords r) ++ rowsBytes rs
+rowsBytes (r ∷ rs) = words (rowWords r) ++ rowsBytes rs
 
 -- the table's bytes after a reading: a row a payload, the rest as it was; a refusal leaves all of it
 unfoldable pub rowsAfter : Records → List ℕ → List ℕ
-rowsAfter (recorded n c) table = rowsBytes (recordsOf (c .found)) ++ drop (rowBytes * length (c .found)) table
+rowsAfter (recorded n c) table = rowsBytes (rowsOf (c .found)) ++ drop (rowBytes * length (c .found)) table
 rowsAfter (unrecorded why) table = table
 
 abbrev pub ReadReplies : Records → ℕ → List ℕ → List ℕ → List ℕ → Type 0
@@ -112,3 +120,9 @@ abbrev pub MoveReplies : List ℕ → ℕ → List ℕ → ℕ → List ℕ → 
 MoveReplies s place scratch r answer exit =
     Replies (twoReply (moveFigures (moveBody (reading s) place (length scratch)))) r answer
     × (exit ≡ scratchAfter (foundAt (reading s) place) scratch)
+
+-- ---- a payload found by its id and ordinal: 2 numbers, the first of them its place
+
+abbrev pub findFigures : FindAnswer → Figures
+findFigures (FindAnswer.Place k) = record { number = 0; first = k; second = 0 }
+findFigures (FindAnswer.Refused why) = figuresOf (findRefusal why)

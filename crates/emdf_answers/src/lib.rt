@@ -1,13 +1,12 @@
 // The answers to a C host as numbers. docs/HOST.md has each byte form.
 ghost use mathlib.Core.Path.{_≡_};
 ghost use mathlib.Core.List.{[], _∷_};
-ghost use Prim.Native.Nat.{_+_, _*_, _<_, _≤_};
 ghost use lib.ListN.{length, getD};
 ghost use Rattle.emdf_format.specs.declared.Figures.{Figures};
 ghost use Rattle.emdf_answers.specs.Bits.{accepted, refusedAt, bitsReply, bitReply, windowReply, alignReply, figuresAt};
 ghost use Rattle.emdf_answers.specs.Fields.{fieldReply};
 ghost use Rattle.emdf_answers.specs.Replies.{padded};
-ghost use Rattle.emdf_answers.specs.Carriers.{parsedWords, optionalWords, configWords, traceWords, classReply, moveFigures};
+ghost use Rattle.emdf_answers.specs.Carriers.{parsedWords, optionalWords, configWords, traceWords, classReply, moveFigures, findFigures};
 ghost use Rattle.emdf_answers.specs.Verdict.{profileOf, verdictReply, statusWord};
 ghost use Rattle.emdf_answers.specs.Edits.{editedFigures};
 use emdf_fields::VariableAnswer;
@@ -17,6 +16,7 @@ use emdf_format::EmdfError;
 use emdf_format::EmdfPayloadBitTrace;
 use emdf_format::EmdfPayloadConfig;
 use emdf_format::Figures;
+use emdf_format::FindAnswer;
 use emdf_format::JocProfileAnswer;
 use emdf_format::JocValidationProfile;
 use emdf_format::JocValidationStatus;
@@ -24,6 +24,7 @@ use emdf_format::Optional;
 use emdf_refusals::body_refusal;
 use emdf_refusals::edit_refusal;
 use emdf_refusals::figures_of;
+use emdf_refusals::find_refusal;
 use emdf_refusals::profile_refusal;
 use emdf_refusals::refusal_of;
 use openjoc_bitio::AlignAnswer;
@@ -292,6 +293,19 @@ pub fn trace_words(t: EmdfPayloadBitTrace) -> [u64; 8]
         t.payload_body_start_bit.0 as u64,
         t.payload_body_end_bit.0 as u64,
     ]
+}
+
+pub fn find_figures(found: FindAnswer) -> Figures
+    ensures { λ r. ⌜ r ≡ findFigures found ⌝ }
+{
+    match found {
+        FindAnswer::Place(place) => Figures {
+            number: 0,
+            first: place as u64,
+            second: 0,
+        },
+        FindAnswer::Refused(why) => figures_of(find_refusal(why)),
+    }
 }
 
 pub fn move_figures(moved: BodyAnswer) -> Figures

@@ -14,3 +14,4 @@ pub mod Loops
 pub mod Splice
 pub mod Cleared
 pub mod Groups
+pub mod Ordinals

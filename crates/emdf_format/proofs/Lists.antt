@@ -16,12 +16,14 @@ use Rattle.emdf_format.specs.Syntax.{mostDeclared}
 use Rattle.emdf_format.specs.Contents.{Payload, Contents, _&_, writable, declared, carrier, allBytes, bodiesAreBytes, contentsAreBytes}
 use Rattle.emdf_format.specs.Reading.{Container, Reading, accepted, refusal, reading, contentsOf}
 use Rattle.emdf_format.specs.Calls.{inTable}
+use Rattle.emdf_format.specs.Ordinals.{ordinalAt, idsOf}
 use Rattle.emdf_format.specs.Edits.{Edit, bodyEdit, settingsEdit, dropEdit, insertEdit, keyEdit, protectionEdit, withAt, withBody, withConfig, withPayloads, cleared, change, placeExists, Stepped, changed, unchanged, carrierLength, inRoom, stepTo, step, stepAnswer, stepContents, written, stepFrom, edited, Call, nextSource, done, leaves, answers, eventOf, events, outcome, plainContents, plainAnswers, Bytes, EditBytes, CallsBytes, ReadsAs, EqualityOfCarriers}
 use Rattle.emdf_format.proofs.Standing.{T-of, if-yes, both, and}
 use Rattle.emdf_format.proofs.Payloads.{allFoundFrom}
 use Rattle.emdf_format.proofs.Container.{containerFrom}
 use Rattle.emdf_format.proofs.Bytes.{length-carrier}
 use Rattle.emdf_format.proofs.Carrier.{read-sound, read-exact, contents-back, carrier-injective}
+use Rattle.emdf_format.proofs.Ordinals.{row-numbered}
 use Rattle.emdf_format.proofs.Spans.{laid}
 
 -- ---- a carrier and its contents
@@ -65,6 +67,7 @@ reads-as {s} {c} k =
       whole = r;
       contents = contents-back 32 c;
       records = λ rows h. rw r (if-yes (leb (length (containerFrom 32 c .found)) rows) _ _ (le→leb _ rows (rw length-found h)));
+      ordinals = λ i row h. row-numbered (containerFrom 32 c .found) i row h ∙ ap (λ (x : Contents). ordinalAt (idsOf (x .payloads)) i) (contents-back 32 c);
       bodies = laid s (length s) (containerFrom 32 c) r .bodies;
     }
 

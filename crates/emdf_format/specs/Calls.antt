@@ -8,13 +8,14 @@ use lib.ListN.{length, take, drop, getElem?}
 use lib.Dec.{leb, eqb}
 use Rattle.openjoc_bitio.specs.Choice.{if_then_else_}
 use Rattle.openjoc_bitio.specs.Bits.{bitsValue}
-use Rattle.emdf_format.specs.Types.{EmdfError, RecordsError, BodyError, BodyAnswer, PayloadRecord}
+use Rattle.emdf_format.specs.Types.{EmdfError, RecordsError, BodyError, BodyAnswer, PayloadRecord, PayloadRow}
 use Rattle.emdf_format.specs.declared.RecordsError.the-variants as RecordsError
 use Rattle.emdf_format.specs.declared.BodyError.the-variants as BodyError
 use Rattle.emdf_format.specs.declared.BodyAnswer.the-variants as BodyAnswer
 use Rattle.emdf_format.specs.Syntax.{syncword}
 use Rattle.emdf_format.specs.Contents.{_&_}
 use Rattle.emdf_format.specs.Reading.{Found, Container, Reading, accepted, refusal, reading}
+use Rattle.emdf_format.specs.Ordinals.{rowsOf, OrdinalsInOrder}
 
 -- ---- records
 
@@ -33,9 +34,13 @@ inTable rows (accepted n c) =
 inTable rows (refusal why) = unrecorded (RecordsError.Emdf why)
 
 -- the table after it: a row a payload, the rest as it was; a refusal leaves all of it
-unfoldable pub tableAfter : Records → List PayloadRecord → List PayloadRecord
-tableAfter (recorded n c) table = recordsOf (c .found) ++ drop (length (c .found)) table
+unfoldable pub tableAfter : Records → List PayloadRow → List PayloadRow
+tableAfter (recorded n c) table = rowsOf (c .found) ++ drop (length (c .found)) table
 tableAfter (unrecorded why) table = table
+
+-- of every table that a reading filled
+abbrev pub TableInvariant : Type 0
+TableInvariant = (n : ℕ) (c : Container) (table : List PayloadRow) → OrdinalsInOrder (tableAfter (recorded n c) table) (length (c .found))
 
 -- ---- class
 

@@ -3,17 +3,19 @@ use mathlib.Core.Path.{_≡_}
 use mathlib.Core.Bool.{Bool, true, false}
 use mathlib.Core.List.{List, [], _∷_, _++_}
 use mathlib.Core.Logic.{_↔_}
+use mathlib.Core.Option.{some}
 use Prim.Native.Nat.{ℕ, zero, suc, _+_, _<_, _≤_}
-use lib.ListN.{length, getD, take, drop, replicate}
+use lib.ListN.{length, getD, getElem?, take, drop, replicate}
 use lib.Dec.{leb, ltb, eqb}
 use Rattle.openjoc_bitio.specs.Choice.{if_then_else_}
 use Rattle.openjoc_bitio.specs.declared.ByteCount.{ByteCount}
-use Rattle.emdf_format.specs.Types.{EmdfPayloadConfig, EditError, EditAnswer}
+use Rattle.emdf_format.specs.Types.{EmdfPayloadConfig, PayloadRow, EditError, EditAnswer}
 use Rattle.emdf_format.specs.declared.EditError.the-variants.{Emdf, TrailingData, NoSuchPlace, NotWritable, TooLong, DestinationTooShort}
 use Rattle.emdf_format.specs.declared.EditAnswer.the-variants.{Written, Refused}
 use Rattle.emdf_format.specs.Syntax.{mostDeclared}
 use Rattle.emdf_format.specs.Contents.{Payload, Contents, writable, declared, carrier}
 use Rattle.emdf_format.specs.Reading.{Container, Reading, accepted, refusal, reading, contentsOf}
+use Rattle.emdf_format.specs.Ordinals.{occurrences, ordinalAt, idsOf, rowsOf}
 use Rattle.emdf_format.specs.Calls.{recorded, inTable, BodiesAtSpans}
 
 -- the steps of the scope, with their arguments; places count from 0
@@ -212,6 +214,32 @@ unfoldable pub plainAnswers : Contents → List Event → List EditAnswer
 plainAnswers c [] = []
 plainAnswers c (e ∷ es) = outcome c e .answer ∷ plainAnswers (outcome c e .contents) es
 
+-- ---- what the scope claims of ordinals
+
+abbrev ordinalOf : Contents → ℕ → ℕ
+ordinalOf c k = ordinalAt (idsOf (c .payloads)) k
+
+abbrev idAt : Contents → ℕ → ℕ
+idAt c k = getD (idsOf (c .payloads)) k 0
+
+-- a drop lowers by 1 those of later payloads of its id; an insert, which is one more of its id, raises by 1 those of later ones; no
+-- other ordinal changes
+pub record OrdinalsOfEdits : Type 0 where
+  pub before-drop : (c : Contents) (k i : ℕ) → k < length (c .payloads) → i < k → ordinalOf (change (dropEdit k) c) i ≡ ordinalOf c i
+  pub after-drop : (c : Contents) (k i : ℕ) → k ≤ i → suc i < length (c .payloads)
+      → ordinalOf c (suc i)
+      ≡ (if eqb (idAt c k) (idAt c (suc i)) then suc (ordinalOf (change (dropEdit k) c) i) else ordinalOf (change (dropEdit k) c) i)
+  pub before-insert : (c : Contents) (k i x : ℕ) (t : EmdfPayloadConfig) (bs : List ℕ) → k ≤ length (c .payloads) → i < k
+      → ordinalOf (change (insertEdit k x t bs) c) i ≡ ordinalOf c i
+  pub inserted : (c : Contents) (k x : ℕ) (t : EmdfPayloadConfig) (bs : List ℕ) → k ≤ length (c .payloads)
+      → ordinalOf (change (insertEdit k x t bs) c) k ≡ suc (occurrences x (take k (idsOf (c .payloads))))
+  pub after-insert : (c : Contents) (k i x : ℕ) (t : EmdfPayloadConfig) (bs : List ℕ) → k ≤ i → i < length (c .payloads)
+      → ordinalOf (change (insertEdit k x t bs) c) (suc i) ≡ (if eqb x (idAt c i) then suc (ordinalOf c i) else ordinalOf c i)
+  pub other-body : (c : Contents) (k i : ℕ) (bs : List ℕ) → ordinalOf (change (bodyEdit k bs) c) i ≡ ordinalOf c i
+  pub other-settings : (c : Contents) (k i : ℕ) (t : EmdfPayloadConfig) → ordinalOf (change (settingsEdit k t) c) i ≡ ordinalOf c i
+  pub other-key : (c : Contents) (i x : ℕ) → ordinalOf (change (keyEdit x) c) i ≡ ordinalOf c i
+  pub other-protection : (c : Contents) (i : ℕ) (a b : List ℕ) → ordinalOf (change (protectionEdit a b) c) i ≡ ordinalOf c i
+
 -- ---- what the scope claims of whole lists
 
 -- bytes are bytes: so is what every slice holds
@@ -230,13 +258,14 @@ unfoldable pub CallsBytes : List Call → Type 0
 CallsBytes [] = Unit {0}
 CallsBytes (t ∷ ts) = EditBytes (t .edit) × CallsBytes ts
 
--- reading s answers its length and the contents c: key id, count, protections; in a table long enough each id and settings; and each
--- body's bytes stand at its span
+-- reading s answers its length and the contents c: key id, count, protections; in a table long enough each id, settings and ordinal;
+-- and each body's bytes stand at its span
 pub record ReadsAs (s : List ℕ) (c : Contents) : Type 0 where
   pub container : Container
   pub whole : reading s ≡ accepted (length s) container
   pub contents : contentsOf container ≡ c
   pub records : (rows : ℕ) → length (c .payloads) ≤ rows → inTable rows (reading s) ≡ recorded (length s) container
+  pub ordinals : (k : ℕ) (r : PayloadRow) → getElem? (rowsOf (container .found)) k ≡ some r → r .ordinal ≡ ordinalOf c k
   pub bodies : BodiesAtSpans s (container .found)
 
 -- an accepted blank reads as its contents

@@ -4,6 +4,7 @@ pub mod Contents
 pub mod Groups
 pub mod Reader
 pub mod Reading
+pub mod Ordinals
 pub mod Refusals
 pub mod Calls
 pub mod Profile

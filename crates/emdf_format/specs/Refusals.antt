@@ -1,11 +1,12 @@
 -- Each refusal's number and figures: the scope's list of questions. Assumes nothing.
 use Rattle.openjoc_bitio.specs.declared.BitError.the-variants.{EndOfInput, InvalidWidth}
-use Rattle.emdf_format.specs.Types.{EmdfError, RecordsError, JocProfileError, BodyError, EditError, RecipeError, Refusal, Figures}
+use Rattle.emdf_format.specs.Types.{EmdfError, RecordsError, JocProfileError, BodyError, FindError, EditError, RecipeError, Refusal, Figures}
 use Rattle.emdf_format.specs.declared.TruncatedPart.the-variants as TruncatedPart
 use Rattle.emdf_format.specs.declared.EmdfError.the-variants.{TruncatedContainer, InvalidSyncword, Bit, InvalidVariableBits, VariableBitsGroupLimit, ValueOverflow, UnsupportedVersion, NonzeroReservedData, ReservedPrimaryProtectionLength, ExcessPadding, NonzeroPadding}
 use Rattle.emdf_format.specs.declared.RecordsError.the-variants as RecordsError
 use Rattle.emdf_format.specs.declared.JocProfileError.the-variants as JocProfileError
 use Rattle.emdf_format.specs.declared.BodyError.the-variants as BodyError
+use Rattle.emdf_format.specs.declared.FindError.the-variants as FindError
 use Rattle.emdf_format.specs.declared.EditError.the-variants as EditError
 use Rattle.emdf_format.specs.declared.RecipeError.the-variants as RecipeError
 use Rattle.emdf_format.specs.declared.Refusal.the-variants.{Bare, One, Two}
@@ -38,6 +39,10 @@ abbrev pub bodyRefusal : BodyError → Refusal
 bodyRefusal (BodyError.Emdf why) = refusalOf why
 bodyRefusal BodyError.NoSuchPayload = Bare 16
 bodyRefusal (BodyError.ScratchTooShort needed) = One 19 (needed .0)
+
+abbrev pub findRefusal : FindError → Refusal
+findRefusal (FindError.Emdf why) = refusalOf why
+findRefusal FindError.NoSuchOrdinal = Bare 24
 
 abbrev pub editRefusal : EditError → Refusal
 editRefusal (EditError.Emdf why) = refusalOf why

@@ -6,9 +6,12 @@ pub use Rattle.emdf_format.specs.declared.Optional.{Optional}
 pub use Rattle.emdf_format.specs.declared.EmdfPayloadConfig.{EmdfPayloadConfig}
 pub use Rattle.emdf_format.specs.declared.EmdfPayloadBitTrace.{EmdfPayloadBitTrace}
 pub use Rattle.emdf_format.specs.declared.PayloadRecord.{PayloadRecord}
+pub use Rattle.emdf_format.specs.declared.PayloadRow.{PayloadRow}
 pub use Rattle.emdf_format.specs.declared.RecordsError.{RecordsError}
 pub use Rattle.emdf_format.specs.declared.BodyError.{BodyError}
 pub use Rattle.emdf_format.specs.declared.BodyAnswer.{BodyAnswer}
+pub use Rattle.emdf_format.specs.declared.FindError.{FindError}
+pub use Rattle.emdf_format.specs.declared.FindAnswer.{FindAnswer}
 pub use Rattle.emdf_format.specs.declared.JocValidationProfile.{JocValidationProfile}
 pub use Rattle.emdf_format.specs.declared.PlacedConfig.{PlacedConfig}
 pub use Rattle.emdf_format.specs.declared.JocRole.{JocRole}

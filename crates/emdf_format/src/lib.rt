@@ -111,6 +111,12 @@ pub struct PayloadRecord {
     pub trace: EmdfPayloadBitTrace,
 }
 
+// A row of a table: what is recorded of a payload, and which of the payloads of its id it is, from 1.
+pub struct PayloadRow {
+    pub payload: PayloadRecord,
+    pub ordinal: u64,
+}
+
 // Why a reading that fills a table of records is refused: as any reading is, or for want of rows.
 pub enum RecordsError {
     Emdf(EmdfError),
@@ -128,6 +134,18 @@ pub enum BodyError {
 pub enum BodyAnswer {
     Body(BitOffset, ByteCount),
     Refused(BodyError),
+}
+
+// Why no payload is found by its id and ordinal.
+pub enum FindError {
+    Emdf(EmdfError),
+    NoSuchOrdinal,
+}
+
+// The finding call's answer: the payload's place.
+pub enum FindAnswer {
+    Place(usize),
+    Refused(FindError),
 }
 
 // The policy of a verdict: tables 55 and 56 as the original has them, or with the deviations that it lets pass.

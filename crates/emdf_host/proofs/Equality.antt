@@ -22,7 +22,7 @@ use Rattle.emdf_format.specs.Edits.{Edit, Stepped, changed, unchanged, carrierL
 use Rattle.emdf_format.proofs.Lists.{changes}
 use Rattle.emdf_answers.specs.Form.{words}
 use Rattle.emdf_answers.specs.Edits.{editedFigures}
-use Rattle.emdf_settings_bytes.proofs.Settings.{number-read}
+use Rattle.emdf_answers.proofs.Form.{number-read}
 use Rattle.emdf_format.specs.declared.RecipeError.the-variants.{BrokenChain, InvalidRecord}
 use Rattle.emdf_recipe.specs.File.{Recipe, edits, wrong, recipeOf}
 use Rattle.emdf_recipe_run.specs.declared.Holder.{Holder}

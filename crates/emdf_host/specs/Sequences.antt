@@ -6,10 +6,9 @@ use Prim.Native.Nat.{ℕ, zero, suc}
 use lib.ListN.{length, take}
 use Rattle.emdf_format.specs.Reading.{Container, accepted, reading, contentsOf}
 use Rattle.emdf_format.specs.Edits.{edited, Call, Bytes, ReadsAs}
-use Rattle.emdf_answers.specs.Form.{words}
+use Rattle.emdf_answers.specs.Form.{words, numberAt}
 use Rattle.emdf_answers.specs.Replies.{Reply, twoReply}
 use Rattle.emdf_answers.specs.Edits.{editedFigures, EditReplies}
-use Rattle.emdf_settings_bytes.specs.Settings.{numberAt}
 use Rattle.emdf_recipe_run.specs.Operations.{Operation, editCall, recipeCall, OperationAnswer, editAnswer, recipeAnswer, operationEvents, contentsAfter, answersOf, OperationsBytes}
 use Rattle.emdf_recipe_bytes.specs.Recipes.{ranReply, RecipeReplies}
 

@@ -1,6 +1,8 @@
 // What a C host calls: exported functions on numbers and byte slices. docs/HOST.md has each byte form.
 ghost use mathlib.Core.Path.{_≡_};
+ghost use Rattle.emdf_format.specs.Reading.{reading};
 ghost use Rattle.emdf_format.specs.Calls.{classify};
+ghost use Rattle.emdf_format.specs.Ordinals.{findPayload};
 ghost use Rattle.emdf_format.specs.Profile.{verdict};
 ghost use Rattle.emdf_format.specs.Edits.{bodyEdit, settingsEdit, dropEdit, insertEdit, keyEdit, protectionEdit, edited, blank};
 ghost use Rattle.openjoc_emdf.specs.Answers.{classAnswer};
@@ -8,7 +10,7 @@ ghost use Rattle.emdf_answers.specs.Form.{version};
 ghost use Rattle.emdf_answers.specs.Bits.{BitReplies, newReply, remainingReply, readBitsReply, readBitReply, takeBitsReply, byteAlignReply};
 ghost use Rattle.emdf_answers.specs.Fields.{FieldReplies, variableBitsReply};
 ghost use Rattle.emdf_answers.specs.Replies.{twoReply, Replies};
-ghost use Rattle.emdf_answers.specs.Carriers.{readInto, ReadReplies, classReply, MoveReplies};
+ghost use Rattle.emdf_answers.specs.Carriers.{readInto, ReadReplies, classReply, MoveReplies, findFigures};
 ghost use Rattle.emdf_answers.specs.Verdict.{profileOf, verdictReply};
 ghost use Rattle.emdf_answers.specs.Edits.{EditReplies};
 ghost use Rattle.emdf_settings_bytes.specs.Settings.{settingsOf};
@@ -23,7 +25,7 @@ use openjoc_emdf::OpenAnswer;
 pub extern "C" fn emdf_version() -> u32
     ensures { λ r. ⌜ r ≡ version ⌝ }
 {
-    4
+    5
 }
 
 #[no_mangle]
@@ -143,7 +145,7 @@ pub extern "C" fn emdf_classify(bytes: &[u8], answer: &mut [u8; 88]) -> u32
     emdf_answers::class_number(class)
 }
 
-// Reads the carrier; a row of 216 bytes a payload goes into the table.
+// Reads the carrier; a row of 224 bytes a payload goes into the table.
 #[no_mangle]
 pub extern "C" fn emdf_read(bytes: &[u8], table: &mut [u8], answer: &mut [u8; 80]) -> u32
     ensures { λ r. ⌜ ReadReplies (readInto (now (bytes .entry)) (now (table .entry))) r (now (answer .exit)) (now (table .entry)) (now (table .exit)) ⌝ }
@@ -164,6 +166,20 @@ pub extern "C" fn emdf_read(bytes: &[u8], table: &mut [u8], answer: &mut [u8; 80
         }
         OpenAnswer::Refused(why) => emdf_rows::put_refusal(answer, RecordsError::Emdf(why)),
     }
+}
+
+// The place of the payload with an id and an ordinal.
+#[no_mangle]
+pub extern "C" fn emdf_find_payload(
+    bytes: &[u8],
+    id: u64,
+    ordinal: u64,
+    answer: &mut [u8; 16],
+) -> u32
+    ensures { λ r. ⌜ Replies (twoReply (findFigures (findPayload id ordinal (reading (now (bytes .entry)))))) r (now (answer .exit)) ⌝ }
+{
+    let found = emdf_ordinals::find_payload(bytes, id, ordinal);
+    emdf_rows::put_place(answer, found)
 }
 
 // Moves the body of a payload to the scratch, unless it starts on a byte of the carrier.

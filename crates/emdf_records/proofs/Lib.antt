@@ -1,2 +1,4 @@
 pub mod Row
 pub mod Fill
+pub mod Again
+pub mod LocalArray

@@ -9,10 +9,12 @@ use lib.ListN.{length, take}
 use lib.Seq.{sets, sets-eq}
 use lib.Dec.{leb, leb→le}
 use Rattle.openjoc_bitio.specs.declared.BitCursor.{BitCursor}
-use Rattle.emdf_format.specs.Reading.{Found, Reading, accepted, refusal, reading}
-use Rattle.emdf_format.specs.Calls.{recordsOf, Records, recorded, unrecorded, inTable, tableAfter}
+use Rattle.emdf_format.specs.Reading.{Found, Reading, accepted, refusal, reading, payloadsOf}
+use Rattle.emdf_format.specs.Ordinals.{idsOf, idsIn, ordinalAt, rowsFrom, rowsOf}
+use Rattle.emdf_format.specs.Calls.{Records, recorded, unrecorded, inTable, tableAfter}
 use Rattle.emdf_format.specs.declared.EmdfError.{EmdfError}
 use Rattle.emdf_format.specs.declared.PayloadRecord.{PayloadRecord}
+use Rattle.emdf_format.specs.declared.PayloadRow.{PayloadRow}
 use Rattle.emdf_format.specs.declared.RecordsError.the-variants as RecordsError
 use Rattle.emdf_format.proofs.Standing.{T-of}
 use Rattle.openjoc_emdf.specs.Answers.{parsedEmdf, firstPayload, openAnswer}
@@ -56,15 +58,16 @@ abbrev pub rest : List Found → List Found
 rest [] = []
 rest (x ∷ xs) = xs
 
--- a turn: the payload's record is the next one
+-- a turn: the payload is the next one
 pub record Turned (s : List ℕ) (xs : List Found) (next : BitCursor) (r : PayloadRecord) : Type 0 where
   pub left : Left s next (rest xs)
-  pub records : recordsOf xs ≡ r ∷ recordsOf (rest xs)
+  pub ids : idsIn xs ≡ r .id ∷ idsIn (rest xs)
+  pub rows : (ids : List ℕ) (k : ℕ) → rowsFrom ids k xs ≡ record { payload = r; ordinal = ordinalAt ids k } ∷ rowsFrom ids (suc k) (rest xs)
   pub count : length xs ≡ suc (length (rest xs))
 
 turned-by : (s : List ℕ) (next : BitCursor) (r : PayloadRecord) (x : Found) (ys xs : List Found) → xs ≡ x ∷ ys → x .record-of ≡ r → Listed (inside s next) next ys → Turned s xs next r
-unfolding recordsOf
-turned-by s next r x ys xs e f m = rw e (record { left = λ _. m; records = rw f; count = refl })
+unfolding idsOf payloadsOf rowsFrom
+turned-by s next r x ys xs e f m = rw e (record { left = λ _. m; ids = rw f; rows = λ ids k. rw f; count = refl })
 
 module _ (s : List ℕ) (c : BitCursor) (xs : List Found) (l : Left s c xs) (some : 0 < length xs) where
   pub never-ended : {next : BitCursor} → stepAt (inside s c) c ≡ PayloadStep.End next → ⊥
@@ -103,13 +106,13 @@ plan-is s rows (accepted n c) h = go (leb (length (c .found)) rows) refl
     go true e = record { answer = rw e; count = rw e; room = rw e (leb→le _ _ (T-of e)); left = rw e (λ _. all-listed) }
     go false e = record { answer = rw e; count = rw e; room = rw e (omega arith); left = rw e (λ h. absurd (omega arith)) }
 
-length-records : (xs : List Found) → length (recordsOf xs) ≡ length xs
-unfolding recordsOf
-length-records [] = refl
-length-records (x ∷ xs) = ap suc (length-records xs)
+length-rows : (ids : List ℕ) (k : ℕ) (xs : List Found) → length (rowsFrom ids k xs) ≡ length xs
+unfolding rowsFrom
+length-rows ids k [] = refl
+length-rows ids k (x ∷ xs) = ap suc (length-rows ids (suc k) xs)
 
 -- the rows of the plan, put in, are the table afterwards
-pub filled : (t : Records) (xs : List PayloadRecord) → length (planned t) ≤ length xs → sets xs 0 (recordsOf (planned t)) ≡ tableAfter t xs
-unfolding tableAfter recordsOf
-filled (recorded n c) xs h = sets-eq (recordsOf (c .found)) xs 0 (rw (zero-add, length-records) h) ∙ rw (zero-add, length-records)
+pub filled : (t : Records) (xs : List PayloadRow) → length (planned t) ≤ length xs → sets xs 0 (rowsFrom (idsIn (planned t)) 0 (planned t)) ≡ tableAfter t xs
+unfolding tableAfter rowsOf rowsFrom
+filled (recorded n c) xs h = sets-eq (rowsFrom (idsIn (c .found)) 0 (c .found)) xs 0 (rw (zero-add, length-rows) h) ∙ rw (zero-add, length-rows)
 filled (unrecorded why) xs h = refl

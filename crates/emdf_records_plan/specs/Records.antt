@@ -8,7 +8,7 @@ use Rattle.openjoc_bitio.specs.declared.BitCursor.{BitCursor}
 use Rattle.emdf_format.specs.Reader.{cursorAt}
 use Rattle.emdf_format.specs.Reading.{Reading, accepted, refusal}
 use Rattle.emdf_format.specs.Calls.{Records, recorded, unrecorded, tableAfter}
-use Rattle.emdf_format.specs.declared.PayloadRecord.{PayloadRecord}
+use Rattle.emdf_format.specs.declared.PayloadRow.{PayloadRow}
 use Rattle.emdf_format.specs.declared.RecordsError.{RecordsError}
 use Rattle.emdf_format.specs.declared.RecordsError.the-variants as RecordsError
 use Rattle.openjoc_emdf.specs.Answers.{parsedEmdf, firstPayload}
@@ -22,19 +22,19 @@ recordsAnswer (recorded n c) = RecordsAnswer.Parsed (parsedEmdf n c)
 recordsAnswer (unrecorded why) = RecordsAnswer.Refused why
 
 -- what the call gives: its answer, and its table at exit
-abbrev pub GivesRecords : Records → List PayloadRecord → RecordsAnswer → List PayloadRecord → Type 0
+abbrev pub GivesRecords : Records → List PayloadRow → RecordsAnswer → List PayloadRow → Type 0
 GivesRecords t table answer exit = (answer ≡ recordsAnswer t) × (exit ≡ tableAfter t table)
 
 -- ---- before a row is filled
 
 -- refused: no row is filled
 abbrev pub noRows : RecordsError → RecordsPlan
-noRows why = record { answer = RecordsAnswer.Refused why; count = 0; first = cursorAt 0 0 }
+noRows why = record { count = 0; first = cursorAt 0 0; answer = RecordsAnswer.Refused why }
 
 unfoldable pub rowsPlan : ParsedEmdf → BitCursor → ℕ → RecordsPlan
 rowsPlan p first rows =
     if leb (p .container .payloads) rows
-    then record { answer = RecordsAnswer.Parsed p; count = p .container .payloads; first = first }
+    then record { count = p .container .payloads; first = first; answer = RecordsAnswer.Parsed p }
     else noRows (RecordsError.TableTooShort (p .container .payloads))
 
 unfoldable pub recordsPlan : ℕ → List ℕ → Reading → RecordsPlan

@@ -13,11 +13,11 @@ pub enum RecordsAnswer {
     Refused(RecordsError),
 }
 
-// The answer, how many rows to fill, and the cursor at the first payload.
+// How many rows to fill, the cursor at the first payload, and the answer.
 pub struct RecordsPlan {
-    pub answer: RecordsAnswer,
     pub count: usize,
     pub first: BitCursor,
+    pub answer: RecordsAnswer,
 }
 
 // All is read and asked here, before the first row is filled.
@@ -39,9 +39,9 @@ fn plan_rows(parsed: ParsedEmdf, first: BitCursor, rows: usize) -> RecordsPlan
         return no_rows(RecordsError::TableTooShort { payloads: count });
     }
     RecordsPlan {
-        answer: RecordsAnswer::Parsed(parsed),
         count,
         first,
+        answer: RecordsAnswer::Parsed(parsed),
     }
 }
 
@@ -53,8 +53,8 @@ fn no_rows(why: RecordsError) -> RecordsPlan
         end: 0,
     };
     RecordsPlan {
-        answer: RecordsAnswer::Refused(why),
         count: 0,
         first,
+        answer: RecordsAnswer::Refused(why),
     }
 }

@@ -1,10 +1,11 @@
 // Each refusal's number in the scope, and its figures: a new refusal is a line here and a line in its definition.
 ghost use mathlib.Core.Path.{_≡_};
-ghost use Rattle.emdf_format.specs.Refusals.{refusalOf, recordsRefusal, profileRefusal, bodyRefusal, editRefusal, recipeRefusal, figuresOf};
+ghost use Rattle.emdf_format.specs.Refusals.{refusalOf, recordsRefusal, profileRefusal, bodyRefusal, findRefusal, editRefusal, recipeRefusal, figuresOf};
 use emdf_format::BodyError;
 use emdf_format::EditError;
 use emdf_format::EmdfError;
 use emdf_format::Figures;
+use emdf_format::FindError;
 use emdf_format::JocProfileError;
 use emdf_format::RecipeError;
 use emdf_format::RecordsError;
@@ -79,6 +80,15 @@ pub fn body_refusal(why: BodyError) -> Refusal
         BodyError::Emdf(inner) => refusal_of(inner),
         BodyError::NoSuchPayload => Refusal::Bare(16),
         BodyError::ScratchTooShort { needed } => Refusal::One(19, needed.0 as u64),
+    }
+}
+
+pub fn find_refusal(why: FindError) -> Refusal
+    ensures { λ r. ⌜ r ≡ findRefusal why ⌝ }
+{
+    match why {
+        FindError::Emdf(inner) => refusal_of(inner),
+        FindError::NoSuchOrdinal => Refusal::Bare(24),
     }
 }
 

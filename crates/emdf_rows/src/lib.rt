@@ -1,31 +1,39 @@
 // Answers and payloads' rows, stored as numbers of 8 bytes into a host's bytes.
 ghost use mathlib.Core.Path.{_≡_};
 ghost use mathlib.Core.List.{List};
-ghost use Prim.Native.Nat.{_+_, _*_, _≤_};
-ghost use lib.ListN.{length};
+ghost use Prim.Native.Nat.{suc, _+_, _*_, _≤_};
+ghost use lib.ListN.{length, replicate};
 ghost use lib.Seq.{sets};
 ghost use Rattle.emdf_format.specs.Reading.{Found};
-ghost use Rattle.emdf_format.specs.Calls.{recordsOf, unrecorded};
+ghost use Rattle.emdf_format.specs.Calls.{unrecorded};
+ghost use Rattle.emdf_format.specs.Ordinals.{rowsOf};
 ghost use Rattle.emdf_payloads.specs.Payloads.{Listed};
 ghost use Rattle.emdf_answers.specs.Form.{bigEndian, words};
 ghost use Rattle.emdf_answers.specs.Bits.{replyWords, BitReplies};
 ghost use Rattle.emdf_answers.specs.Fields.{FieldReplies};
 ghost use Rattle.emdf_answers.specs.Replies.{twoReply, Replies};
-ghost use Rattle.emdf_answers.specs.Carriers.{readReply, recordWords, rowsBytes, moveFigures};
+ghost use Rattle.emdf_answers.specs.Carriers.{readReply, rowWords, rowsBytes, moveFigures, findFigures};
 ghost use Rattle.emdf_answers.specs.Edits.{editedFigures};
-ghost use Rattle.emdf_rows.specs.Rows.{PutsRow};
+ghost use Rattle.emdf_ordinals.specs.Rows.{slotsWith};
+ghost use Rattle.emdf_rows.specs.Rows.{lastIn, Searchable, PutsRow};
 use emdf_answers::BitReply;
 use emdf_answers::FieldReply;
 use emdf_format::BodyAnswer;
 use emdf_format::EditAnswer;
 use emdf_format::Figures;
+use emdf_format::FindAnswer;
 use emdf_format::PayloadRecord;
 use emdf_format::RecordsError;
 use emdf_payloads::PayloadStep;
 use openjoc_bitio::BitCursor;
 
-// A payload's row: 27 numbers.
-pub const ROW_BYTES: usize = 216;
+// A payload's row: 28 numbers, its ordinal the last.
+pub const ROW_BYTES: usize = 224;
+
+const ORDINAL_AT: usize = 216;
+
+// So few payloads take more time to clear all slots than to search without them.
+const FEW_PAYLOADS: usize = 64;
 
 pub fn put_reply(answer: &mut [u8; 48], reply: BitReply) -> u32
     ensures { λ r. ⌜ BitReplies reply r (now (answer .exit)) ⌝ }
@@ -75,29 +83,45 @@ pub fn put_reading(answer: &mut [u8; 80], number: u32, values: [u64; 10]) -> u32
 
 // A row for each of count payloads, the first of which stands at c.
 pub fn put_rows(table: &mut [u8], s: &[u8], c: BitCursor, count: usize)
-    requires { ⌜ count * 216 ≤ length (now table) ⌝ }
-    ensures { λ _. ⌜ ((xs : List Found) → Listed (now (s .entry)) c xs → length xs ≡ count → now (table .exit) ≡ sets (now (table .entry)) 0 (rowsBytes (recordsOf xs))) ⌝ }
+    requires { ⌜ (count * 224 ≤ length (now table)) × ((xs : List Found) × Listed (now s) c xs × (length xs ≡ count)) ⌝ }
+    ensures { λ _. ⌜ ((xs : List Found) → Listed (now (s .entry)) c xs → length xs ≡ count → now (table .exit) ≡ sets (now (table .entry)) 0 (rowsBytes (rowsOf xs))) ⌝ }
+{
+    if count <= FEW_PAYLOADS {
+        let mut slots: [u64; 32] = [0; 32];
+        put_rows_with(table, &mut slots, s, c, count);
+        return;
+    }
+    let mut slots: [u64; emdf_ordinals::SLOTS] = [0; emdf_ordinals::SLOTS];
+    put_rows_with(table, &mut slots, s, c, count);
+}
+
+// The same with slots that are all free.
+fn put_rows_with(table: &mut [u8], slots: &mut [u64], s: &[u8], c: BitCursor, count: usize)
+    requires { ⌜ (count * 224 ≤ length (now table)) × ((xs : List Found) × Listed (now s) c xs × (length xs ≡ count)) × (now slots ≡ replicate (length (now slots)) 0) ⌝ }
+    ensures { λ _. ⌜ ((xs : List Found) → Listed (now (s .entry)) c xs → length xs ≡ count → now (table .exit) ≡ sets (now (table .entry)) 0 (rowsBytes (rowsOf xs))) ⌝ }
 {
     let mut at = c;
     let mut place: usize = 0;
     while place < count {
-        at = put_next(table, place * ROW_BYTES, s, at);
+        at = put_next(table, slots, place, s, at);
         place += 1;
     }
 }
 
-// The row of the payload at c, and the cursor past it.
-fn put_next(table: &mut [u8], row: usize, s: &[u8], c: BitCursor) -> BitCursor
-    requires { ⌜ row + 216 ≤ length (now table) ⌝ }
-    ensures { λ r. ⌜ PutsRow (now (s .entry)) c (now (table .entry)) row r (now (table .exit)) ⌝ }
+// The row of the payload at c, after place rows, and the cursor past it.
+fn put_next(table: &mut [u8], slots: &mut [u64], place: usize, s: &[u8], c: BitCursor) -> BitCursor
+    requires { ⌜ (place * 224 + 224 ≤ length (now table)) × Searchable (now table) (now slots) place ⌝ }
+    ensures { λ r. ⌜ PutsRow (now (s .entry)) c (now (table .entry)) (now (slots .entry)) place r (now (table .exit)) (now (slots .exit)) ⌝ }
 {
     let position = c.position;
     let end = c.end;
     let found = emdf_payloads::compact_at(s, position, end);
     if found.length == 0 {
-        return put_found(table, row, s, BitCursor { position, end });
+        return put_found(table, slots, place, s, BitCursor { position, end });
     }
-    put_record(table, row, emdf_payloads::compact_record(found, position));
+    let record = emdf_payloads::compact_record(found, position);
+    let ordinal = next_ordinal(table, slots, place, record.id);
+    put_row(table, place * ROW_BYTES, record, ordinal);
     BitCursor {
         position: position + found.length,
         end,
@@ -105,35 +129,54 @@ fn put_next(table: &mut [u8], row: usize, s: &[u8], c: BitCursor) -> BitCursor
 }
 
 // The row of any payload, by its record.
-fn put_found(table: &mut [u8], row: usize, s: &[u8], c: BitCursor) -> BitCursor
-    requires { ⌜ row + 216 ≤ length (now table) ⌝ }
-    ensures { λ r. ⌜ PutsRow (now (s .entry)) c (now (table .entry)) row r (now (table .exit)) ⌝ }
+fn put_found(table: &mut [u8], slots: &mut [u64], place: usize, s: &[u8], c: BitCursor) -> BitCursor
+    requires { ⌜ (place * 224 + 224 ≤ length (now table)) × Searchable (now table) (now slots) place ⌝ }
+    ensures { λ r. ⌜ PutsRow (now (s .entry)) c (now (table .entry)) (now (slots .entry)) place r (now (table .exit)) (now (slots .exit)) ⌝ }
 {
     let step = emdf_payloads::next_payload(s, c);
     let PayloadStep::Payload(record, next) = step else {
         // An accepted carrier has a payload here.
         return c;
     };
-    put_record(table, row, record);
+    let ordinal = next_ordinal(table, slots, place, record.id);
+    put_row(table, place * ROW_BYTES, record, ordinal);
     next
 }
 
-// The id, 18 numbers of settings, 8 of the trace.
-pub fn put_record(table: &mut [u8], at: usize, row: PayloadRecord)
-    requires { ⌜ at + 216 ≤ length (now table) ⌝ }
-    ensures { λ _. ⌜ now (table .exit) ≡ sets (now (table .entry)) at (words (recordWords row)) ⌝ }
+// The ordinal of a payload with this id after place rows, by these; its slot is taken. Apart from storing the row, which then
+// compiles into put_next.
+fn next_ordinal(table: &[u8], slots: &mut [u64], place: usize, id: u64) -> u64
+    requires { ⌜ (place * 224 + 224 ≤ length (now table)) × Searchable (now table) (now slots) place ⌝ }
+    ensures { λ r. ⌜ (r ≡ suc (lastIn (now (table .entry)) (now (slots .entry)) place id)) × (now (slots .exit) ≡ slotsWith (now (slots .entry)) id place) ⌝ }
 {
-    put_word(table, at, row.id);
-    let config = emdf_answers::config_words(row.config);
+    let rows = emdf_ordinals::take_slot(slots, id, place);
+    let last = emdf_ordinals::last_ordinal(table, ROW_BYTES, ORDINAL_AT, rows, id);
+    last + 1
+}
+
+// The id, 18 numbers of settings, 8 of the trace, and the ordinal.
+pub fn put_row(table: &mut [u8], at: usize, payload: PayloadRecord, ordinal: u64)
+    requires { ⌜ at + 224 ≤ length (now table) ⌝ }
+    ensures { λ _. ⌜ now (table .exit) ≡ sets (now (table .entry)) at (words (rowWords (record { payload = payload; ordinal = ordinal }))) ⌝ }
+{
+    put_word(table, at, payload.id);
+    let config = emdf_answers::config_words(payload.config);
     put_words(table, at + 8, &config);
-    let trace = emdf_answers::trace_words(row.trace);
+    let trace = emdf_answers::trace_words(payload.trace);
     put_words(table, at + 152, &trace);
+    put_word(table, at + ORDINAL_AT, ordinal);
 }
 
 pub fn put_moved(answer: &mut [u8; 16], moved: BodyAnswer) -> u32
     ensures { λ r. ⌜ Replies (twoReply (moveFigures moved)) r (now (answer .exit)) ⌝ }
 {
     put_two(answer, emdf_answers::move_figures(moved))
+}
+
+pub fn put_place(answer: &mut [u8; 16], found: FindAnswer) -> u32
+    ensures { λ r. ⌜ Replies (twoReply (findFigures found)) r (now (answer .exit)) ⌝ }
+{
+    put_two(answer, emdf_answers::find_figures(found))
 }
 
 pub fn put_two(answer: &mut [u8; 16], f: Figures) -> u32

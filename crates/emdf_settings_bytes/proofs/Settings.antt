@@ -2,22 +2,18 @@
 use mathlib.Core.Path.{_≡_, refl, sym, ap, _∙_}
 use mathlib.Core.Bool.{Bool, true, false}
 use mathlib.Core.List.{List, [], _∷_, _++_}
-use Prim.Native.Nat.{ℕ, zero, suc, _+_, _-_, _*_, _/_, _%_, _^_, _<_, _≤_}
-use native.Mathlib.Nat.{div-one, mod-one, mod-eq-of-lt}
+use Prim.Native.Nat.{ℕ, zero, suc, _+_, _-_, _*_, _^_, _<_, _≤_}
 use native.Mathlib.Omega.{arith}
 use borrow.Author.Tests.{le-leb, lt-ltb}
-use lib.Pow.{mod-pow-add}
 use lib.ListN.{length, getD, take, drop}
 use lib.Dec.{eqb, lit<}
 use Rattle.openjoc_bitio.specs.Choice.{if_then_else_}
-use Rattle.openjoc_bitio.specs.Bits.{bitsValue}
 use Rattle.openjoc_bitio.specs.Cursor.{past, bitsRemaining, readBits}
 use Rattle.openjoc_bitio.specs.declared.BitCursor.{BitCursor}
 use Rattle.openjoc_bitio.specs.declared.BitError.{BitError}
 use Rattle.openjoc_bitio.specs.declared.BitsAnswer.{BitsAnswer}
 use Rattle.openjoc_bitio.specs.declared.BitsAnswer.the-variants.{Value, Refused}
 use Rattle.openjoc_bitio.proofs.Cursor.{remaining-inside, read-accepted}
-use Rattle.openjoc_bitio.proofs.Bits.{value-none, value-split, value-octet, value-append, value-drop}
 use Rattle.emdf_format.specs.Contents.{_&_, whenPresent, upTo, writableConfig, Payload, writablePayload, writablePayloads, Contents, writable}
 use Rattle.emdf_format.specs.Edits.{settingsEdit, insertEdit, withAt, withConfig, withPayloads, cleared, change, placeExists, unchanged, stepTo, step}
 use Rattle.emdf_format.specs.declared.EditError.the-variants.{NotWritable}
@@ -25,38 +21,11 @@ use Rattle.emdf_format.specs.declared.Optional.{Optional}
 use Rattle.emdf_format.specs.declared.Optional.the-variants.{Absent, Present}
 use Rattle.emdf_format.specs.declared.EmdfPayloadConfig.{EmdfPayloadConfig}
 use Rattle.emdf_measure.proofs.Asked.{stop}
-use Rattle.emdf_answers.specs.Form.{bigEndian, words}
+use Rattle.emdf_answers.specs.Form.{words, numberAt}
 use Rattle.emdf_answers.specs.Carriers.{optionalWords, configWords}
-use Rattle.emdf_settings_bytes.specs.Settings.{numberAt, optionalAt, pairFormed, pairsFormed, settingsFormed, configOf, unformed, settingsOf}
-use Rattle.emdf_answers.proofs.Form.{length-words, length-big-endian}
+use Rattle.emdf_settings_bytes.specs.Settings.{optionalAt, pairFormed, pairsFormed, settingsFormed, configOf, unformed, settingsOf}
+use Rattle.emdf_answers.proofs.Form.{length-words, number-read}
 use Rattle.emdf_answers.proofs.Carriers.{presenceOf, valueOf, listed, config-listed}
-
--- ---- numbers from their bytes
-
-first-byte : (b : ℕ) (l : List ℕ) → bitsValue (b ∷ l) 0 8 ≡ b % 256
-first-byte b l = value-octet (b ∷ l) 0 8 0 refl ∙ rw div-one
-
--- n bytes, as one number
-bytes-value : (n v : ℕ) → bitsValue (bigEndian n v) 0 (8 * n) ≡ v % 2 ^ (8 * n)
-unfolding bigEndian
-bytes-value zero v = value-none [] 0 ∙ sym (mod-one v)
-bytes-value (suc n) v =
-    let e : 8 * suc n ≡ 8 + 8 * n = omega arith in
-    let b : ℕ = v / 2 ^ (8 * n) % 256 in
-    let l : List ℕ = bigEndian n v in
-    let d : bitsValue (b ∷ l) 8 (8 * n) ≡ v % 2 ^ (8 * n) = sym (value-drop (b ∷ l) 1 0 (8 * n)) ∙ bytes-value n v in
-    let f : b % 256 ≡ b = omega arith in
-    rw (e, value-split (b ∷ l) 0 8 (8 * n), first-byte b l, f, d) (sym (mod-pow-add v 8 (8 * n)))
-
--- each of some numbers is read back from their bytes
-pub number-read : (vs : List ℕ) (k : ℕ) → k < length vs → getD vs k 0 < 2 ^ 64 → numberAt (words vs) k ≡ getD vs k 0
-unfolding numberAt words bigEndian
-number-read [] k h l = absurd (omega arith)
-number-read (v ∷ vs) zero h l =
-    value-append (bigEndian 8 v) (words vs) 0 64 (omega (arith, length-big-endian 8 v)) ∙ bytes-value 8 v ∙ mod-eq-of-lt l
-number-read (v ∷ vs) (suc k) h l =
-    let e : 64 * suc k ≡ 8 * 8 + 64 * k = omega arith in
-    rw e (sym (value-drop (bigEndian 8 v ++ words vs) 8 (64 * k) 64) ∙ number-read vs k (omega arith) l)
 
 -- ---- settings from their numbers
 

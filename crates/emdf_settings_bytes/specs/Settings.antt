@@ -1,20 +1,15 @@
 -- The byte form of settings, as in a row of a reading's table: docs/HOST.md, 'Settings'. Assumes nothing.
-use Prim.Native.Nat.{ℕ, zero, suc, _+_, _*_}
+use Prim.Native.Nat.{ℕ, zero, suc, _+_}
 use mathlib.Core.Bool.{Bool, true}
 use mathlib.Core.List.{List}
 use lib.ListN.{length}
 use lib.Dec.{eqb}
 use Rattle.openjoc_bitio.specs.Choice.{if_then_else_}
-use Rattle.openjoc_bitio.specs.Bits.{bitsValue}
 use Rattle.emdf_format.specs.Contents.{_&_}
-use Rattle.emdf_answers.specs.Form.{settingsBytes}
+use Rattle.emdf_answers.specs.Form.{settingsBytes, numberAt}
 use Rattle.emdf_format.specs.declared.Optional.{Optional}
 use Rattle.emdf_format.specs.declared.Optional.the-variants.{Absent, Present}
 use Rattle.emdf_format.specs.declared.EmdfPayloadConfig.{EmdfPayloadConfig}
-
--- number k of some bytes, 8 bytes each
-unfoldable pub numberAt : List ℕ → ℕ → ℕ
-numberAt s k = bitsValue s (64 * k) 64
 
 -- a setting that may be absent: its presence, and its value
 unfoldable pub optionalAt : List ℕ → ℕ → Optional

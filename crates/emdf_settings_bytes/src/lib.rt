@@ -2,7 +2,8 @@
 ghost use mathlib.Core.Path.{_≡_};
 ghost use Prim.Native.Nat.{_+_, _*_, _<_, _≤_};
 ghost use lib.ListN.{length};
-ghost use Rattle.emdf_settings_bytes.specs.Settings.{numberAt, optionalAt, pairFormed, pairsFormed, settingsFormed, configOf, unformed, settingsOf};
+ghost use Rattle.emdf_answers.specs.Form.{numberAt};
+ghost use Rattle.emdf_settings_bytes.specs.Settings.{optionalAt, pairFormed, pairsFormed, settingsFormed, configOf, unformed, settingsOf};
 use emdf_format::EmdfPayloadConfig;
 use emdf_format::Optional;
 use openjoc_bitio::BitCursor;

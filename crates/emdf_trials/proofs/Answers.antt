@@ -25,7 +25,7 @@ use Rattle.emdf_format.specs.Calls.{Records, recorded, unrecorded, inTable, tab
 use Rattle.emdf_format.specs.declared.EmdfError.{EmdfError}
 use Rattle.emdf_format.specs.declared.RecordsError.{RecordsError}
 use Rattle.emdf_format.specs.declared.RecordsError.the-variants as RecordsError
-use Rattle.emdf_format.specs.declared.PayloadRecord.{PayloadRecord}
+use Rattle.emdf_format.specs.declared.PayloadRow.{PayloadRow}
 use Rattle.openjoc_emdf.specs.Answers.{parsedEmdf}
 use Rattle.openjoc_emdf.specs.declared.ParsedEmdf.{ParsedEmdf}
 use Rattle.openjoc_emdf.specs.declared.ParseAnswer.{ParseAnswer}
@@ -38,7 +38,7 @@ use Rattle.emdf_answers.specs.Bits.{bitsReply, bitReply, windowReply, alignRepl
 use Rattle.emdf_answers.specs.Replies.{Replies}
 use Rattle.emdf_answers.specs.Carriers.{parsedWords, readReply, rowsBytes}
 use Rattle.emdf_answers.specs.declared.BitReply.{BitReply}
-use Rattle.emdf_trials.specs.Trials.{bitsAnswerOf, bitAnswerOf, windowAnswerOf, alignAnswerOf, parseReply, blankRecord, tableRows, readRows}
+use Rattle.emdf_trials.specs.Trials.{bitsAnswerOf, bitAnswerOf, windowAnswerOf, alignAnswerOf, parseReply, blankRow, tableRows, readRows}
 
 -- ---- a reading without a table
 
@@ -109,7 +109,7 @@ module _ {r : ℕ} {answer : List ℕ} {a : RecordsAnswer} where
     pub untraced : {why : RecordsError} → a ≡ RecordsAnswer.Refused why → Replies (readReply (unrecorded why)) r answer → Replies (readReply (inTable n (reading s))) r answer
     untraced = was-untraced (inTable n (reading s)) (as-many s m h)
 
-pub rows-told : (s table : List ℕ) {rows : ℕ} {blank : PayloadRecord} {records : List PayloadRecord} {table′ : List ℕ} → rows ≡ tableRows (length table) → blank ≡ blankRecord → records ≡ tableAfter (inTable rows (reading s)) (replicate 512 blank)
-    → table′ ≡ sets table 0 (rowsBytes (take rows records)) → table′ ≡ sets table 0 (rowsBytes (readRows s (length table)))
+pub rows-told : (s table : List ℕ) {rows : ℕ} {blank : PayloadRow} {lent : List PayloadRow} {table′ : List ℕ} → rows ≡ tableRows (length table) → blank ≡ blankRow → lent ≡ tableAfter (inTable rows (reading s)) (replicate 512 blank)
+    → table′ ≡ sets table 0 (rowsBytes (take rows lent)) → table′ ≡ sets table 0 (rowsBytes (readRows s (length table)))
 unfolding readRows
 rows-told s table a b e f = f ∙ rw (e, a, b)

@@ -5,11 +5,11 @@ use Prim.Native.Nat.{ℕ, zero, suc, _+_, _-_, _*_, _≤_, _<_}
 use native.Mathlib.Omega.{arith}
 use lib.ListN.{length, set, take, drop, getD, drop-of-length-le}
 use lib.Seq.{sets, drop-cons}
-use Rattle.emdf_format.specs.declared.PayloadRecord.{PayloadRecord}
+use Rattle.emdf_format.specs.declared.PayloadRow.{PayloadRow}
 use Rattle.emdf_format.proofs.Bytes.{sets-append}
 use Rattle.emdf_answers.specs.Form.{words}
-use Rattle.emdf_answers.specs.Carriers.{recordWords, rowsBytes}
-use Rattle.emdf_rows.proofs.Rows.{length-record}
+use Rattle.emdf_answers.specs.Carriers.{rowWords, rowsBytes}
+use Rattle.emdf_rows.proofs.Rows.{length-row}
 
 -- the next of n, and those after it
 next : {X : Type 0} (n i : ℕ) (xs : List X) (d : X) → i < n → i < length xs → take (n - i) (drop i xs) ≡ getD xs i d ∷ take (n - (i + 1)) (drop (i + 1) xs)
@@ -36,14 +36,14 @@ byte-stored n i out bytes h k = let b : i + 1 ≡ suc i = omega arith in rw (nex
 
 -- ---- rows
 
-pub row-stored : (n i : ℕ) (table : List ℕ) (records : List PayloadRecord) (d : PayloadRecord) → i < n → i < length records
-    → sets (sets table (i * 216) (words (recordWords (getD records i d)))) ((i + 1) * 216) (rowsBytes (take (n - (i + 1)) (drop (i + 1) records))) ≡ sets table (i * 216) (rowsBytes (take (n - i) (drop i records)))
+pub row-stored : (n i : ℕ) (table : List ℕ) (rows : List PayloadRow) (d : PayloadRow) → i < n → i < length rows
+    → sets (sets table (i * 224) (words (rowWords (getD rows i d)))) ((i + 1) * 224) (rowsBytes (take (n - (i + 1)) (drop (i + 1) rows))) ≡ sets table (i * 224) (rowsBytes (take (n - i) (drop i rows)))
 unfolding rowsBytes
-row-stored n i table records d h k =
-    let r = getD records i d in
-    let e : (i + 1) * 216 ≡ i * 216 + length (words (recordWords r)) = omega (arith, length-record r) in
-    rw (next n i records d h k, e) (sym (sets-append table (i * 216) (words (recordWords r)) (rowsBytes (take (n - (i + 1)) (drop (i + 1) records)))))
+row-stored n i table rows d h k =
+    let r = getD rows i d in
+    let e : (i + 1) * 224 ≡ i * 224 + length (words (rowWords r)) = omega (arith, length-row r) in
+    rw (next n i rows d h k, e) (sym (sets-append table (i * 224) (words (rowWords r)) (rowsBytes (take (n - (i + 1)) (drop (i + 1) rows)))))
 
-pub rows-done : (n i : ℕ) (table : List ℕ) (records : List PayloadRecord) → n ≤ i → table ≡ sets table (i * 216) (rowsBytes (take (n - i) (drop i records)))
+pub rows-done : (n i : ℕ) (table : List ℕ) (rows : List PayloadRow) → n ≤ i → table ≡ sets table (i * 224) (rowsBytes (take (n - i) (drop i rows)))
 unfolding rowsBytes
-rows-done n i table records h = rw (all-taken n i records h)
+rows-done n i table rows h = rw (all-taken n i rows h)

@@ -25,7 +25,7 @@ use Rattle.emdf_format.specs.Reading.{reading}
 use Rattle.emdf_format.specs.Refusals.{refusalOf, figuresOf}
 use Rattle.emdf_format.specs.Calls.{Records, inTable, tableAfter}
 use Rattle.emdf_format.specs.declared.Optional.the-variants.{Present}
-use Rattle.emdf_format.specs.declared.PayloadRecord.{PayloadRecord}
+use Rattle.emdf_format.specs.declared.PayloadRow.{PayloadRow}
 use Rattle.openjoc_emdf.specs.declared.ParseAnswer.{ParseAnswer}
 use Rattle.openjoc_emdf.specs.declared.ParseAnswer.the-variants as ParseAnswer
 use Rattle.emdf_answers.specs.Bits.{accepted, bitsReply, bitReply, windowReply, alignReply}
@@ -70,48 +70,51 @@ unfoldable pub parseReply : ParseAnswer → Reply
 parseReply (ParseAnswer.Parsed p) = acceptedReply (parsedWords p)
 parseReply (ParseAnswer.Refused why) = refusedReply 10 (figuresOf (refusalOf why))
 
--- ---- a reading into records
+-- ---- a reading into rows
 
 abbrev pub most : ℕ
 most = 0xffffffffffffffff
 
-abbrev pub blankRecord : PayloadRecord
-blankRecord = record {
-  id = most;
-  config = record {
-    «sample_offset» = Present most;
-    duration = Present most;
-    «group_id» = Present most;
-    «codec_data_present» = most;
-    «discard_unknown_payload» = most;
-    «payload_frame_aligned» = Present most;
-    «create_duplicate» = Present most;
-    «remove_duplicate» = Present most;
-    priority = Present most;
-    «processing_allowed» = Present most;
+abbrev pub blankRow : PayloadRow
+blankRow = record {
+  payload = record {
+    id = most;
+    config = record {
+      «sample_offset» = Present most;
+      duration = Present most;
+      «group_id» = Present most;
+      «codec_data_present» = most;
+      «discard_unknown_payload» = most;
+      «payload_frame_aligned» = Present most;
+      «create_duplicate» = Present most;
+      «remove_duplicate» = Present most;
+      priority = Present most;
+      «processing_allowed» = Present most;
+    };
+    trace = record {
+      «payload_id_start_bit» = record { 0 = most };
+      «payload_id_end_bit» = record { 0 = most };
+      «config_start_bit» = record { 0 = most };
+      «config_end_bit» = record { 0 = most };
+      «payload_size_start_bit» = record { 0 = most };
+      «payload_size_end_bit» = record { 0 = most };
+      «payload_body_start_bit» = record { 0 = most };
+      «payload_body_end_bit» = record { 0 = most };
+    };
   };
-  trace = record {
-    «payload_id_start_bit» = record { 0 = most };
-    «payload_id_end_bit» = record { 0 = most };
-    «config_start_bit» = record { 0 = most };
-    «config_end_bit» = record { 0 = most };
-    «payload_size_start_bit» = record { 0 = most };
-    «payload_size_end_bit» = record { 0 = most };
-    «payload_body_start_bit» = record { 0 = most };
-    «payload_body_end_bit» = record { 0 = most };
-  };
+  ordinal = most;
 }
 
--- the records that are lent, where a table has so many bytes
+-- the rows that are lent, where a table has so many bytes
 unfoldable pub tableRows : ℕ → ℕ
 tableRows bytes = if leb (bytes / rowBytes) 512 then bytes / rowBytes else 512
 
 abbrev pub recordsRead : List ℕ → ℕ → Records
 recordsRead s bytes = inTable (tableRows bytes) (reading s)
 
--- those records after the reading
-unfoldable pub readRows : List ℕ → ℕ → List PayloadRecord
-readRows s bytes = take (tableRows bytes) (tableAfter (recordsRead s bytes) (replicate 512 blankRecord))
+-- those rows after the reading
+unfoldable pub readRows : List ℕ → ℕ → List PayloadRow
+readRows s bytes = take (tableRows bytes) (tableAfter (recordsRead s bytes) (replicate 512 blankRow))
 
 -- ---- bits put into a buffer
 

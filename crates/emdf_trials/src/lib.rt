@@ -15,12 +15,13 @@ ghost use Rattle.emdf_answers.specs.Bits.{BitReplies, bitsReply, bitReply, wind
 ghost use Rattle.emdf_answers.specs.Replies.{Replies};
 ghost use Rattle.emdf_answers.specs.Carriers.{readReply, rowsBytes};
 ghost use Rattle.emdf_answers.specs.Verdict.{verdictReply};
-ghost use Rattle.emdf_trials.specs.Trials.{bitsAnswerOf, bitAnswerOf, windowAnswerOf, alignAnswerOf, readerReply, parseReply, blankRecord, tableRows, readRows, recordsRead, told};
+ghost use Rattle.emdf_trials.specs.Trials.{bitsAnswerOf, bitAnswerOf, windowAnswerOf, alignAnswerOf, readerReply, parseReply, blankRow, tableRows, readRows, recordsRead, told};
 use emdf_answers::BitReply;
 use emdf_format::EmdfPayloadBitTrace;
 use emdf_format::EmdfPayloadConfig;
 use emdf_format::Optional;
 use emdf_format::PayloadRecord;
+use emdf_format::PayloadRow;
 use emdf_format::RecordsError;
 use emdf_records_plan::RecordsAnswer;
 use openjoc_bit_reader::AlignStep;
@@ -134,16 +135,16 @@ pub extern "C" fn trial_parse(bytes: &[u8], answer: &mut [u8; 80]) -> u32
     }
 }
 
-// parse_emdf_sync_with_bit_trace, lent as many records as the table has rows, at most 512. All of them are written to the
-// table, those of payloads and those that have to be blank still.
+// parse_emdf_sync_with_bit_trace, lent as many rows as the table has, at most 512. All of them are written to the table,
+// those of payloads and those that have to be blank still.
 #[no_mangle]
 pub extern "C" fn trial_trace(bytes: &[u8], table: &mut [u8], answer: &mut [u8; 80]) -> u32
     ensures { λ r. ⌜ Replies (readReply (recordsRead (now (bytes .entry)) (length (now (table .entry))))) r (now (answer .exit)) × (now (table .exit) ≡ sets (now (table .entry)) 0 (rowsBytes (readRows (now (bytes .entry)) (length (now (table .entry)))))) ⌝ }
 {
     let rows = table_rows(table.len());
-    let read = emdf_table::read_table(bytes, blank_record(), rows);
-    let records = read.records;
-    put_records(table, records, rows);
+    let read = emdf_table::read_table(bytes, blank_row(), rows);
+    let lent = read.table;
+    put_table(table, lent, rows);
     let a = read.answer;
     match a {
         RecordsAnswer::Parsed(parsed) => {
@@ -154,7 +155,7 @@ pub extern "C" fn trial_trace(bytes: &[u8], table: &mut [u8], answer: &mut [u8; 
 }
 
 fn table_rows(bytes: usize) -> usize
-    ensures { λ r. ⌜ (r ≡ tableRows bytes) × (r ≤ 512) × (r * 216 ≤ bytes) ⌝ }
+    ensures { λ r. ⌜ (r ≡ tableRows bytes) × (r ≤ 512) × (r * 224 ≤ bytes) ⌝ }
 {
     let rows = bytes / emdf_rows::ROW_BYTES;
     if 512 < rows {
@@ -164,8 +165,8 @@ fn table_rows(bytes: usize) -> usize
 }
 
 // No payload has it: each number is the largest.
-fn blank_record() -> PayloadRecord
-    ensures { λ r. ⌜ r ≡ blankRecord ⌝ }
+fn blank_row() -> PayloadRow
+    ensures { λ r. ⌜ r ≡ blankRow ⌝ }
 {
     let most = Optional::Present(0xffff_ffff_ffff_ffff);
     let bit = BitOffset(0xffff_ffff_ffff_ffff);
@@ -191,21 +192,25 @@ fn blank_record() -> PayloadRecord
         payload_body_start_bit: bit,
         payload_body_end_bit: bit,
     };
-    PayloadRecord {
+    let payload = PayloadRecord {
         id: 0xffff_ffff_ffff_ffff,
         config,
         trace,
+    };
+    PayloadRow {
+        payload,
+        ordinal: 0xffff_ffff_ffff_ffff,
     }
 }
 
-fn put_records(table: &mut [u8], records: [PayloadRecord; 512], rows: usize)
-    requires { ⌜ (rows ≤ 512) × (rows * 216 ≤ length (now table)) ⌝ }
-    ensures { λ _. ⌜ now (table .exit) ≡ sets (now (table .entry)) 0 (rowsBytes (take rows records)) ⌝ }
+fn put_table(table: &mut [u8], lent: [PayloadRow; 512], rows: usize)
+    requires { ⌜ (rows ≤ 512) × (rows * 224 ≤ length (now table)) ⌝ }
+    ensures { λ _. ⌜ now (table .exit) ≡ sets (now (table .entry)) 0 (rowsBytes (take rows lent)) ⌝ }
 {
     let mut i: usize = 0;
     while i < rows {
-        let record = records[i];
-        emdf_rows::put_record(table, i * emdf_rows::ROW_BYTES, record);
+        let row = lent[i];
+        emdf_rows::put_row(table, i * emdf_rows::ROW_BYTES, row.payload, row.ordinal);
         i += 1;
     }
 }

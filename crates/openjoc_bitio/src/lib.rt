@@ -233,7 +233,7 @@ fn few_octets(s: &[u8], i: usize) -> u64
 
 // The eight octets from index i on, as a number. They are taken in the machine's order and turned round, which compiles
 // to one load.
-fn octets_at(s: &[u8], i: usize) -> u64
+pub fn octets_at(s: &[u8], i: usize) -> u64
     requires { ⌜ i + 8 ≤ length (now s) ⌝ }
     ensures { λ r. ⌜ r ≡ bitsValue (now (s .entry)) (i * 8) 64 ⌝ }
 {

@@ -12,6 +12,8 @@ pub mod damage;
 pub mod draw;
 #[path = "oracle/facts.rs"]
 pub mod facts;
+#[path = "cases/finds.rs"]
+pub mod finds;
 #[path = "model/groups.rs"]
 pub mod groups;
 #[path = "cases/limits.rs"]
@@ -24,6 +26,8 @@ pub mod options;
 pub mod oracle;
 #[path = "cases/pairs.rs"]
 pub mod pairs;
+#[path = "model/ordinals.rs"]
+pub mod ordinals;
 #[path = "model/plain.rs"]
 pub mod plain;
 #[path = "model/profile.rs"]

@@ -1,12 +1,13 @@
 use borrow.Author.Needs.{needs}
 use mathlib.Core.Path.{_≡_, sym, _∙_}
+use native.Mathlib.Omega.{arith}
 use lib.Seq.{length-take-le}
 use denote.Ref.{now}
 use Rattle.emdf_format.specs.Reading.{reading}
 use Rattle.openjoc_emdf.specs.Answers.{openAnswer}
 use Rattle.openjoc_emdf.specs.declared.OpenAnswer.the-variants as OpenAnswer
 use Rattle.openjoc_emdf.proofs.Opening.{opened}
-use Rattle.emdf_host.proofs.Carriers.{refused-table, refused-carrier, read-carrier}
+use Rattle.emdf_host.proofs.Carriers.{all-listed, refused-table, refused-carrier, read-carrier}
 use Rattle.emdf_host.proofs.emdf_read.Statement.{statement}
 use Rattle.emdf_host.proofs.emdf_read.Tie as tie
 
@@ -29,7 +30,7 @@ slice-aggregate-put-rows : tie.Need-slice-aggregate-put-rows
 slice-aggregate-put-rows c = sym (length-take-le _ _ (opened _ (opening (c .before .before .before .before)) .there))
 
 put-rows-requires : tie.Need-put-rows-requires
-put-rows-requires c κs = search needs
+put-rows-requires c κs = (omega arith, all-listed _ (opening (c .before .before .before .before)))
 
 parsed-words-requires : tie.Need-parsed-words-requires
 parsed-words-requires c κs = search needs

@@ -6,14 +6,14 @@ use Rattle.emdf_trials.proofs.trial_trace.Tie as tie
 table-rows-requires : tie.Need-table-rows-requires
 table-rows-requires c κs = search needs
 
-blank-record-requires : tie.Need-blank-record-requires
-blank-record-requires c κs = search needs
+blank-row-requires : tie.Need-blank-row-requires
+blank-row-requires c κs = search needs
 
 read-table-requires : tie.Need-read-table-requires
 read-table-requires c κs = search needs
 
-put-records-requires : tie.Need-put-records-requires
-put-records-requires c κs = search needs
+put-table-requires : tie.Need-put-table-requires
+put-table-requires c κs = search needs
 
 enum-known-a : tie.Need-enum-known-a
 enum-known-a c = search needs
@@ -39,7 +39,7 @@ returns c =
     let rows = q .before .before .table-rows .ensures .0 in
     let h = q .read-table .ensures in
     let t = traced _ rows (h .0) (c .before .before .before .before .a .given .1) (c .put-reading .ensures) (c .before .parsed-words .ensures) in
-    (t, rows-told _ _ rows (q .before .blank-record .ensures) (h .1) (c .before .before .before .before .before .before .before .before .put-records .ensures))
+    (t, rows-told _ _ rows (q .before .blank-row .ensures) (h .1) (c .before .before .before .before .before .before .before .before .put-table .ensures))
 
 same-length-2 : tie.Need-same-length-2
 same-length-2 c = search needs
@@ -50,16 +50,16 @@ returns-2 c =
     let rows = q .before .before .table-rows .ensures .0 in
     let h = q .read-table .ensures in
     let t = untraced _ rows (h .0) (c .before .before .before .a2 .given .1) (c .put-refusal .ensures) in
-    (t, rows-told _ _ rows (q .before .blank-record .ensures) (h .1) (c .before .before .before .before .before .before .before .put-records .ensures))
+    (t, rows-told _ _ rows (q .before .blank-row .ensures) (h .1) (c .before .before .before .before .before .before .before .put-table .ensures))
 
 pub trial-trace-spec : {M : Type 1} → statement M
 trial-trace-spec =
     tie.close
     (tie.spec
     table-rows-requires
-    blank-record-requires
+    blank-row-requires
     read-table-requires
-    put-records-requires
+    put-table-requires
     enum-known-a
     parsed-words-requires
     put-reading-requires

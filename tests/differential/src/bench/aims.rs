@@ -24,6 +24,12 @@ pub struct Compared {
     pub times_faster: Option<f64>,
 }
 
+/// A call on a carrier with as many numbered payloads as there is room for, in nanoseconds.
+pub struct Longest {
+    pub named: String,
+    pub time: f64,
+}
+
 /// An edit's time, as a part of two readings and six copies.
 pub struct Edited {
     pub named: String,
@@ -41,7 +47,10 @@ pub struct Copies {
 /// From so many octets on there is an aim for what copying them takes.
 const MANY_OCTETS: usize = 4_096;
 
-pub fn show(compared: &[Compared], edited: &[Edited], copies: &[Copies]) {
+/// What the longest carrier's ordinals may take, in nanoseconds.
+const A_SECOND: f64 = 1e9;
+
+pub fn show(compared: &[Compared], longest: &[Longest], edited: &[Edited], copies: &[Copies]) {
     println!("\naims, and what this run reaches");
     let times = compared.iter().map(|one| (one.ratio.time, &one.named));
     show_worst("never slower than the Rust, by time", times);
@@ -50,6 +59,8 @@ pub fn show(compared: &[Compared], edited: &[Edited], copies: &[Copies]) {
         .filter_map(|one| Some((one.ratio.count?, &one.named)));
     show_worst("never slower than the Rust, by instructions", counts);
     compared.iter().for_each(show_times_faster);
+    let seconds = longest.iter().map(|one| (one.time / A_SECOND, &one.named));
+    show_worst("ordinals of the longest within a second", seconds);
     let edits = edited.iter().map(|one| (one.ratio, &one.named));
     show_worst("an edit within 2r+6c, by time", edits);
     for (straight, times) in [(true, 1.5), (false, 4.0)] {

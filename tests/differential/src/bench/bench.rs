@@ -9,12 +9,12 @@ mod exported;
 mod runs;
 mod subjects;
 
-use aims::{Compared, Copies, Edited, Measure};
+use aims::{Compared, Copies, Edited, Longest, Measure};
 use calls::Call;
 use runs::Copied;
 use std::env;
 use std::process::ExitCode;
-use subjects::{Input, Subject};
+use subjects::{Input, Numbered, Subject};
 
 /// Calls that take turns.
 type Group<'a> = Vec<Call<'a>>;
@@ -25,10 +25,17 @@ type Costs = Vec<(&'static str, Measure)>;
 fn main() -> ExitCode {
     let subjects = subjects::subjects();
     let edges = subjects::edges();
+    let numbered = subjects::numbered();
     let copied = runs::all();
-    let groups = groups(&subjects, &edges, &copied);
+    let all = All {
+        subjects: &subjects,
+        edges: &edges,
+        numbered: &numbered,
+        copied: &copied,
+    };
+    let groups = groups(&all);
     match env::args().nth(1).as_deref() {
-        None => measure(&subjects, &edges, &copied, groups),
+        None => measure(&all, groups),
         Some(counts::ARGUMENT) => counts::make_each(groups.into_iter().flatten()),
         Some(argument) => {
             eprintln!("{argument}: unknown argument");
@@ -38,19 +45,35 @@ fn main() -> ExitCode {
     ExitCode::SUCCESS
 }
 
+/// What the calls are measured on, by the tables.
+struct All<'a> {
+    subjects: &'a [Subject],
+    edges: &'a [Input],
+    numbered: &'a [Numbered],
+    copied: &'a [Copied],
+}
+
 /// All groups, in the order of the tables.
-fn groups<'a>(subjects: &'a [Subject], edges: &'a [Input], copied: &'a [Copied]) -> Vec<Group<'a>> {
-    let subjects_read = subjects.iter().map(calls::readings_and_verdict);
-    let edges_read = edges.iter().map(calls::readings);
-    let edited = subjects.iter().map(calls::edits);
-    let copied = copied.iter().map(Copied::calls);
-    let read = subjects_read.chain(edges_read);
+fn groups<'a>(all: &All<'a>) -> Vec<Group<'a>> {
+    let subjects_read = all.subjects.iter().map(calls::readings_and_verdict);
+    let edges_read = all.edges.iter().map(calls::readings);
+    let numbered = all.numbered.iter().map(calls::numbered);
+    let edited = all.subjects.iter().map(calls::edits);
+    let copied = all.copied.iter().map(Copied::calls);
+    let read = subjects_read.chain(edges_read).chain(numbered);
     read.chain(edited).chain(copied).collect()
 }
 
-fn measure(subjects: &[Subject], edges: &[Input], copied: &[Copied], groups: Vec<Group>) {
+fn measure(all: &All, groups: Vec<Group>) {
+    let All {
+        subjects,
+        edges,
+        numbered,
+        copied,
+    } = all;
     subjects.iter().for_each(calls::check_subject);
     edges.iter().for_each(calls::check_readings);
+    numbered.iter().for_each(calls::check_numbered);
     copied.iter().for_each(Copied::check);
     let rounds = clock::ROUNDS;
     println!(
@@ -63,9 +86,10 @@ fn measure(subjects: &[Subject], edges: &[Input], copied: &[Copied], groups: Vec
     });
     let mut costs = costs(groups, counts);
     let compared = show_readings(subjects, edges, &mut costs);
+    let longest = show_numbered(numbered, &mut costs);
     let edited = show_edits(subjects, &mut costs);
     let copies = show_copies(copied, &mut costs);
-    aims::show(&compared, &edited, &copies);
+    aims::show(&compared, &longest, &edited, &copies);
 }
 
 /// Each group's calls and what they cost, measured when it is their turn in a table.
@@ -88,10 +112,7 @@ fn show_readings(
     edges: &[Input],
     costs: &mut impl Iterator<Item = Costs>,
 ) -> Vec<Compared> {
-    println!(
-        "{:<44} {:>8} {:>12} {:>12} {:>8} {:>12} {:>12} {:>8}",
-        "input", "call", "library", "Rust", "ratio", "library", "Rust", "ratio"
-    );
+    show_heading("input");
     let subjects = subjects.iter().map(|one| (&one.input, one.times_faster));
     let inputs = subjects.chain(edges.iter().map(|input| (input, None)));
     let mut all = Vec::new();
@@ -108,6 +129,31 @@ fn show_readings(
         }
     }
     all
+}
+
+/// The same for carriers whose payloads are numbered, which the Rust does not do: the times of the longest ones' readings.
+fn show_numbered(numbered: &[Numbered], costs: &mut impl Iterator<Item = Costs>) -> Vec<Longest> {
+    println!();
+    show_heading("carrier whose payloads are numbered");
+    let mut all = Vec::new();
+    for (numbered, costs) in numbered.iter().zip(costs) {
+        let name = &numbered.input.name;
+        let (pairs, _) = costs.as_chunks();
+        for [(call, library), (_, rust)] in pairs {
+            show_pair(name, call, *library, *rust);
+            let named = format!("{call}, {name}");
+            let time = library.time;
+            all.extend(numbered.is_longest.then_some(Longest { named, time }));
+        }
+    }
+    all
+}
+
+fn show_heading(first: &str) {
+    println!(
+        "{first:<44} {:>8} {:>12} {:>12} {:>8} {:>12} {:>12} {:>8}",
+        "call", "library", "Rust", "ratio", "library", "Rust", "ratio"
+    );
 }
 
 fn show_pair(input: &str, call: &str, library: Measure, rust: Measure) -> Measure {

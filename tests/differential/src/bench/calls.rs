@@ -1,8 +1,10 @@
 //! The calls that are measured, in the library and in the Rust original.
 
 use crate::exported;
-use crate::subjects::{Input, Subject};
-use differential::carrier::{Ask, CLASS_WORDS, EDIT_WORDS, ROW, SUMMARY_WORDS, VERDICT_WORDS};
+use crate::subjects::{Input, Numbered, Subject};
+use differential::carrier::{
+    Ask, CLASS_WORDS, EDIT_WORDS, FIND_WORDS, ROW, SUMMARY_WORDS, VERDICT_WORDS,
+};
 use differential::case::ACCEPTED;
 use differential::facts::{self, Facts};
 use differential::plain::{self, Step};
@@ -20,6 +22,13 @@ extern "C" {
         length: usize,
         table: *mut u8,
         table_length: usize,
+        answer: *mut u8,
+    ) -> u32;
+    fn emdf_find_payload(
+        bytes: *const u8,
+        length: usize,
+        id: u64,
+        ordinal: u64,
         answer: *mut u8,
     ) -> u32;
     fn emdf_verdict(bytes: *const u8, length: usize, profile: u32, answer: *mut u8) -> u32;
@@ -58,6 +67,18 @@ pub fn readings_and_verdict(subject: &Subject) -> Vec<Call<'_>> {
     calls.push(Call::new("verdict", || library_verdict(bytes)));
     calls.push(Call::new("verdict", || rust_verdict(bytes)));
     calls
+}
+
+/// Reading with a row for each payload, and finding the last one, the library first each time.
+pub fn numbered(numbered: &Numbered) -> Vec<Call<'_>> {
+    let bytes = &numbered.input.bytes;
+    let mut table = vec![0; ROW * numbered.payloads];
+    vec![
+        Call::new("read", move || library_read(bytes, &mut table)),
+        Call::new("read", || rust_read(bytes)),
+        Call::new("find", || library_find(numbered)),
+        Call::new("find", || rust_find(numbered)),
+    ]
 }
 
 /// A copy of a carrier, and its reading.
@@ -101,6 +122,23 @@ pub fn check_readings(input: &Input) {
     let class = rust.reply(Ask::Classify);
     let class = (class.number, class.words[0]);
     assert_eq!(library_classify(bytes), class, "{name}: another class");
+}
+
+/// The same for a carrier whose payloads are numbered.
+pub fn check_numbered(numbered: &Numbered) {
+    let Numbered {
+        input, payloads, ..
+    } = numbered;
+    let Input { name, bytes, .. } = input;
+    let mut table = vec![0; ROW * payloads];
+    let rust = Facts::new(bytes);
+    let read = library_read(bytes, &mut table);
+    assert_eq!(read, ACCEPTED, "{name}: another reading");
+    let ask = Ask::Read { table: table.len() };
+    assert_eq!(table, *rust.written(ask), "{name}: another table");
+    let place = (*payloads - 1) as u64;
+    assert_eq!(library_find(numbered), (ACCEPTED, place), "{name}: found");
+    assert_eq!(rust_find(numbered), Some(*payloads - 1), "{name}: found");
 }
 
 /// The same for the verdict and the edits.
@@ -171,6 +209,34 @@ pub fn library_read(bytes: &[u8], table: &mut [u8]) -> u32 {
 fn rust_read(bytes: &[u8]) {
     let traced = openjoc_emdf::parse_emdf_sync_with_bit_trace(black_box(bytes));
     black_box(&traced);
+}
+
+/// The number returned, and the place.
+fn library_find(numbered: &Numbered) -> (u32, u64) {
+    let bytes = black_box(&numbered.input.bytes[..]);
+    let mut answer = [0; 8 * FIND_WORDS];
+    // SAFETY: the slice is alive, and the answer has the bytes it wants.
+    let number = unsafe {
+        emdf_find_payload(
+            bytes.as_ptr(),
+            bytes.len(),
+            numbered.id,
+            numbered.ordinal,
+            answer.as_mut_ptr(),
+        )
+    };
+    let (numbers, _) = black_box(&answer).as_chunks();
+    (number, u64::from_be_bytes(numbers[0]))
+}
+
+/// The original has no ordinals; it reads, and its payloads are gone through.
+fn rust_find(numbered: &Numbered) -> Option<usize> {
+    let parsed = openjoc_emdf::parse_emdf_sync(black_box(&numbered.input.bytes));
+    let parsed = parsed.expect("a carrier that is accepted");
+    let payloads = parsed.container.payloads.iter().enumerate();
+    let mut of_id = payloads.filter(|(_, payload)| payload.id == numbered.id);
+    let found = of_id.nth(numbered.ordinal as usize - 1);
+    found.map(|(place, _)| place)
 }
 
 /// The number returned, and the class.

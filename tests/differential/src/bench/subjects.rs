@@ -7,6 +7,8 @@ use differential::carrier::{
 use differential::case::{ACCEPTED, TOO_FEW_BITS};
 use differential::contents::{Contents, Payload, Settings};
 use differential::damage;
+use differential::finds::{self, FIRST_ESCAPED};
+use differential::ordinals;
 use differential::profile::{JOC, OAMD, WANTED};
 use differential::shapes::{MOST_GROUP_ID, MOST_OFFSET};
 
@@ -71,6 +73,55 @@ pub fn subjects() -> [Subject; 5] {
             other,
             Some(6.0),
         ),
+    ]
+}
+
+/// Carriers in which payloads are numbered: the last payload's id and ordinal are looked for, too.
+pub struct Numbered {
+    pub input: Input,
+    pub payloads: usize,
+    pub id: u64,
+    pub ordinal: u64,
+    /// Whether it is as long as a carrier can be.
+    pub is_longest: bool,
+}
+
+impl Numbered {
+    fn new(name: &str, contents: &Contents, is_longest: bool) -> Self {
+        let payloads = &contents.payloads;
+        let last = payloads.last().expect("a payload");
+        let ordinals = ordinals::ordinals(payloads);
+        let name = format!("{} payloads, {name}", payloads.len());
+        Self {
+            input: Input::new(&name, contents.written().0, ACCEPTED),
+            payloads: payloads.len(),
+            id: last.id,
+            ordinal: ordinals[ordinals.len() - 1],
+            is_longest,
+        }
+    }
+}
+
+/// Ids that are all different, in two orders, ids by turns, and most rows to search: of 512, and of as many as a carrier has room
+/// for.
+pub fn numbered() -> [Numbered; 7] {
+    let in_turn = |place: u64| 1 + place % 30;
+    let escaped = |place: u64| FIRST_ESCAPED + place;
+    let ascending = finds::with_ids((0..512).map(escaped));
+    let scrambled = finds::with_ids(finds::scrambled(512));
+    let turns = finds::with_ids((0..512).map(in_turn));
+    let searched = finds::most_searched_of_512();
+    let most_turns = finds::as_many_as_fit((0..).map(in_turn));
+    let most_escaped = finds::as_many_as_fit((0..).map(escaped));
+    let most_searched = finds::most_searched();
+    [
+        Numbered::new("escaped ids ascending", &ascending, false),
+        Numbered::new("escaped ids scrambled", &scrambled, false),
+        Numbered::new("30 ids in turn", &turns, false),
+        Numbered::new("most rows searched", &searched, false),
+        Numbered::new("30 ids in turn", &most_turns, true),
+        Numbered::new("escaped ids ascending", &most_escaped, true),
+        Numbered::new("most rows searched", &most_searched, true),
     ]
 }
 

@@ -3,6 +3,7 @@
 use crate::case::{write_bytes, ACCEPTED};
 use crate::contents::{Contents, Payload, Settings};
 use crate::groups;
+use crate::ordinals;
 use std::fmt;
 use std::ops::Range;
 use std::sync::LazyLock;
@@ -26,9 +27,10 @@ pub const BYTES_AFTER: u32 = 20;
 pub const HEADER_CUT: u32 = 21;
 pub const BROKEN_CHAIN: u32 = 22;
 pub const INVALID_RECORD: u32 = 23;
+pub const NO_SUCH_ORDINAL: u32 = 24;
 
 /// The numbers that a call can return, 0 among them.
-pub const NUMBERS: usize = 24;
+pub const NUMBERS: usize = 25;
 
 pub const SYNC_WORD: u16 = 0x5838;
 
@@ -55,6 +57,7 @@ pub const ORIGINAL_WORDS: usize = 9;
 /// The numbers of each answer.
 pub const SUMMARY_WORDS: usize = ORIGINAL_WORDS + 1;
 pub const CLASS_WORDS: usize = 1 + SUMMARY_WORDS;
+pub const FIND_WORDS: usize = 2;
 pub const MOVE_WORDS: usize = 2;
 pub const VERDICT_WORDS: usize = 5;
 pub const EDIT_WORDS: usize = 2;
@@ -64,9 +67,10 @@ pub const RUN_WORDS: usize = 3;
 /// Those of the longest.
 pub const MOST_WORDS: usize = CLASS_WORDS;
 
-/// The numbers of settings, and of a row of a table.
+/// The numbers of settings, and of a row of a table: those that the original has too, and the ordinal.
 pub const SETTINGS_WORDS: usize = 18;
-pub const ROW_WORDS: usize = 27;
+pub const ORIGINAL_ROW_WORDS: usize = 27;
+pub const ROW_WORDS: usize = ORIGINAL_ROW_WORDS + 1;
 
 /// The bytes of one row of a table.
 pub const ROW: usize = 8 * ROW_WORDS;
@@ -94,6 +98,10 @@ pub enum Ask {
     Classify,
     Read {
         table: usize,
+    },
+    Find {
+        id: u64,
+        ordinal: u64,
     },
     MoveBody {
         place: usize,
@@ -125,6 +133,7 @@ impl Ask {
         match self {
             Self::Classify => "classify",
             Self::Read { .. } => "read",
+            Self::Find { .. } => "find_payload",
             Self::MoveBody { .. } => "move_body",
             Self::Verdict { .. } => "verdict",
             Self::Parse => "parse_emdf_sync",
@@ -138,7 +147,11 @@ impl Ask {
     fn is_exported(self) -> bool {
         matches!(
             self,
-            Self::Classify | Self::Read { .. } | Self::MoveBody { .. } | Self::Verdict { .. }
+            Self::Classify
+                | Self::Read { .. }
+                | Self::Find { .. }
+                | Self::MoveBody { .. }
+                | Self::Verdict { .. }
         )
     }
 
@@ -148,6 +161,7 @@ impl Ask {
         match self {
             Self::Classify => CLASS_WORDS,
             Self::Read { .. } | Self::Parse | Self::Trace { .. } => SUMMARY_WORDS,
+            Self::Find { .. } => FIND_WORDS,
             Self::MoveBody { .. } => MOVE_WORDS,
             Self::Verdict { .. } | Self::StrictVerdict => VERDICT_WORDS,
             Self::ChooseBody { .. } => 1,
@@ -158,7 +172,11 @@ impl Ask {
     #[must_use]
     pub fn lent(self) -> usize {
         match self {
-            Self::Classify | Self::Verdict { .. } | Self::Parse | Self::StrictVerdict => 0,
+            Self::Classify
+            | Self::Find { .. }
+            | Self::Verdict { .. }
+            | Self::Parse
+            | Self::StrictVerdict => 0,
             Self::Read { table } | Self::Trace { table } => table,
             Self::MoveBody { scratch, .. } => scratch,
             Self::ChooseBody { room, .. } => room,
@@ -178,7 +196,11 @@ impl Ask {
     #[must_use]
     pub fn with_lent(self, lent: usize) -> Option<Self> {
         match self {
-            Self::Classify | Self::Verdict { .. } | Self::Parse | Self::StrictVerdict => None,
+            Self::Classify
+            | Self::Find { .. }
+            | Self::Verdict { .. }
+            | Self::Parse
+            | Self::StrictVerdict => None,
             Self::Read { .. } => Some(Self::Read { table: lent }),
             Self::Trace { .. } => Some(Self::Trace { table: lent }),
             Self::MoveBody { place, .. } => Some(Self::MoveBody {
@@ -286,12 +308,12 @@ impl Found {
         summary(self.consumed, &self.contents)
     }
 
-    /// A table's rows, a payload each.
+    /// A table's rows, a payload each; their ordinals are by the definition alone.
     pub fn rows(&self) -> impl Iterator<Item = [u64; ROW_WORDS]> + '_ {
-        let payloads = self.contents.payloads.iter();
-        payloads
-            .zip(&self.spans)
-            .map(|(payload, spans)| row(payload, spans))
+        let payloads = &self.contents.payloads;
+        let ordinals = ordinals::ordinals(payloads);
+        let parts = payloads.iter().zip(&self.spans).zip(ordinals);
+        parts.map(|((payload, spans), ordinal)| row(payload, spans, ordinal))
     }
 }
 
@@ -314,7 +336,7 @@ pub fn summary(consumed: usize, contents: &Contents) -> [u64; SUMMARY_WORDS] {
     words
 }
 
-fn row(payload: &Payload, spans: &Spans) -> [u64; ROW_WORDS] {
+fn row(payload: &Payload, spans: &Spans, ordinal: u64) -> [u64; ROW_WORDS] {
     let mut words = [0; ROW_WORDS];
     words[0] = payload.id;
     words[1..=SETTINGS_WORDS].copy_from_slice(&settings(&payload.settings));
@@ -323,6 +345,7 @@ fn row(payload: &Payload, spans: &Spans) -> [u64; ROW_WORDS] {
     for (word, bit) in words[1 + SETTINGS_WORDS..].iter_mut().zip(bits) {
         *word = bit as u64;
     }
+    words[ORIGINAL_ROW_WORDS] = ordinal;
     words
 }
 
@@ -374,6 +397,10 @@ impl fmt::Display for Asked<'_> {
             Ask::Classify | Ask::Parse | Ask::StrictVerdict => Ok(()),
             Ask::Read { table } | Ask::Trace { table } => {
                 writeln!(formatter, "  table     {table} bytes")
+            }
+            Ask::Find { id, ordinal } => {
+                writeln!(formatter, "  id        {id}")?;
+                writeln!(formatter, "  ordinal   {ordinal}")
             }
             Ask::MoveBody { place, scratch } => {
                 writeln!(formatter, "  place     {place}")?;

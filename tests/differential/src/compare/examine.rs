@@ -4,12 +4,14 @@ use crate::guard::Place;
 use crate::lent::Lent;
 use crate::library::{self, Replied};
 use crate::miscounts;
+use crate::misnumbers;
 use crate::reached::Reached;
 use crate::report::{Difference, Tally};
 use crate::self_check;
 use crate::shrink::{self, CarrierCase};
 use differential::carrier::{most_rows, Ask, Asked, Reading, NUMBERS, ROW, ROW_WORDS};
 use differential::facts::{Class, Facts};
+use differential::finds::Named;
 use differential::groups::{self, FIELDS};
 use differential::profile::{self, STRICT};
 use differential::shapes::{self, SHAPES};
@@ -171,6 +173,25 @@ impl Examiner {
         Ok(())
     }
 
+    /// The places of these ids and ordinals in a carrier.
+    ///
+    /// # Errors
+    ///
+    /// Where the library's answer is not what the definition gives for the original's container.
+    pub fn check_names(
+        &mut self,
+        bytes: &[u8],
+        names: &[Named],
+        tally: &mut Tally,
+    ) -> Result<(), Difference> {
+        let facts = Facts::new(bytes);
+        self.desk.place.put(bytes);
+        for &(id, ordinal) in names {
+            self.compare(Ask::Find { id, ordinal }, bytes, &facts, tally)?;
+        }
+        Ok(())
+    }
+
     /// Marks the rarest settings of all carriers so far.
     pub fn mark_settings(&self, tally: &mut Tally) {
         let rarest = self.settings.into_iter().min().unwrap_or(0);
@@ -303,12 +324,18 @@ impl Desk {
     }
 }
 
+/// The reply of the library, or of what stands in its place.
+pub fn replied(bytes: &[u8], ask: Ask, facts: &Facts, lent: &mut Lent) -> Replied {
+    match (self_check::miscount(), self_check::misnumber()) {
+        (None, None) => library::reply(bytes, ask, lent),
+        (Some(miscount), _) => miscounts::replied(miscount, ask, facts, lent),
+        (None, Some(misnumber)) => misnumbers::replied(misnumber, ask, facts, lent),
+    }
+}
+
 /// What both sides said, where that is not the same in every figure and byte.
 pub fn disagreement(bytes: &[u8], ask: Ask, facts: &Facts, lent: &mut Lent) -> Option<String> {
-    let replied = match self_check::miscount() {
-        None => library::reply(bytes, ask, lent),
-        Some(miscount) => miscounts::replied(miscount, ask, facts, lent),
-    };
+    let replied = replied(bytes, ask, facts, lent);
     let written = facts.written(ask);
     if replied.reply == facts.reply(ask) && replied.frame_intact && lent.holds(&written) {
         lent.restore(written.len());

@@ -7,8 +7,8 @@ use crate::guard::Input;
 use crate::lent::Lent;
 use crate::trials;
 use differential::carrier::{
-    self, Ask, Asked, Reply, CHECK_WORDS, CLASS_WORDS, EDIT_WORDS, MOVE_WORDS, RUN_WORDS,
-    SUMMARY_WORDS, VERDICT_WORDS,
+    self, Ask, Asked, Reply, CHECK_WORDS, CLASS_WORDS, EDIT_WORDS, FIND_WORDS, MOVE_WORDS,
+    RUN_WORDS, SUMMARY_WORDS, VERDICT_WORDS,
 };
 use differential::case::{Answer, Call, Described, Form, Request, BIT_WORDS, FIELD_WORDS};
 use differential::plain::Edit;
@@ -69,6 +69,13 @@ extern "C" {
         length: usize,
         table: *mut u8,
         table_length: usize,
+        answer: *mut u8,
+    ) -> u32;
+    fn emdf_find_payload(
+        bytes: *const u8,
+        length: usize,
+        id: u64,
+        ordinal: u64,
         answer: *mut u8,
     ) -> u32;
     fn emdf_move_body(
@@ -180,6 +187,9 @@ pub fn reply(bytes: &[u8], ask: Ask, lent: &mut Lent) -> Replied {
             Ask::Read { table } => {
                 replied::<SUMMARY_WORDS>(|answer| emdf_read(start, length, memory, table, answer))
             }
+            Ask::Find { id, ordinal } => replied::<FIND_WORDS>(|answer| {
+                emdf_find_payload(start, length, id, ordinal, answer)
+            }),
             Ask::MoveBody { place, scratch } => replied::<MOVE_WORDS>(|answer| {
                 emdf_move_body(start, length, place, memory, scratch, answer)
             }),
@@ -196,13 +206,7 @@ pub fn reply(bytes: &[u8], ask: Ask, lent: &mut Lent) -> Replied {
                 is_moved,
                 room,
             } => {
-                let mut scratch = Cow::from(carrier::noise(scratch));
-                if is_moved {
-                    let mut answer = [0; 8 * MOVE_WORDS];
-                    let scratch = scratch.to_mut();
-                    let (to, lent) = (scratch.as_mut_ptr(), scratch.len());
-                    emdf_move_body(start, length, place, to, lent, answer.as_mut_ptr());
-                }
+                let scratch = scratch_of(bytes, place, scratch, is_moved);
                 let chosen = trials::choose_body(bytes, place, &scratch, (memory, room));
                 Replied {
                     reply: Reply::accepted(&[chosen as u64]),
@@ -212,6 +216,20 @@ pub fn reply(bytes: &[u8], ask: Ask, lent: &mut Lent) -> Replied {
             Ask::StrictVerdict => replied::<VERDICT_WORDS>(|answer| trials::verdict(bytes, answer)),
         }
     })
+}
+
+/// A scratch of so many bytes, with the body moved to it or without; what moving answers is compared elsewhere.
+fn scratch_of(bytes: &[u8], place: usize, length: usize, is_moved: bool) -> Cow<'static, [u8]> {
+    let mut scratch = Cow::from(carrier::noise(length));
+    if is_moved {
+        let mut answer = [0; 8 * MOVE_WORDS];
+        let (start, length) = (bytes.as_ptr(), bytes.len());
+        let to = scratch.to_mut();
+        let (to, lent) = (to.as_mut_ptr(), to.len());
+        // SAFETY: both slices are alive, and the answer has the bytes it wants.
+        unsafe { emdf_move_body(start, length, place, to, lent, answer.as_mut_ptr()) };
+    }
+    scratch
 }
 
 /// Makes one edit; the step's slices are handed over from where these lie.

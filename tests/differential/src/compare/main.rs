@@ -17,8 +17,10 @@ mod judge;
 mod lent;
 mod library;
 mod miscounts;
+mod misnumbers;
 #[path = "../model/model.rs"]
 mod model;
+mod ordinals;
 mod reached;
 mod recipe_mistakes;
 mod recipes;
@@ -37,12 +39,13 @@ use report::{Group, Tally};
 use std::process::ExitCode;
 
 /// Each part's groups, run in this order.
-const PARTS: [&[Group]; 10] = [
+const PARTS: [&[Group]; 11] = [
     &bits::GROUPS,
     &fields::GROUPS,
     &runs::GROUPS,
     &carriers::GROUPS,
     &bodies::GROUPS,
+    &ordinals::GROUPS,
     &verdicts::GROUPS,
     &edits::GROUPS,
     &edit_lists::GROUPS,
@@ -53,8 +56,13 @@ const PARTS: [&[Group]; 10] = [
 /// The parts whose groups have to catch the mistakes of the self-check.
 const PARTS_OF_EDITS: [&[Group]; 3] = [&edits::GROUPS, &edit_lists::GROUPS, &recipes::GROUPS];
 
-/// The parts whose groups have to catch its wrong numbers of groups.
-const PARTS_OF_READINGS: [&[Group]; 3] = [&fields::GROUPS, &carriers::GROUPS, &verdicts::GROUPS];
+/// The parts whose groups have to catch its wrong numbers of groups and its wrong ordinals.
+const PARTS_OF_READINGS: [&[Group]; 4] = [
+    &fields::GROUPS,
+    &carriers::GROUPS,
+    &ordinals::GROUPS,
+    &verdicts::GROUPS,
+];
 
 fn main() -> ExitCode {
     let options = match Options::parse(std::env::args().skip(1)) {

@@ -3,6 +3,7 @@
 use crate::lent::Lent;
 use crate::library::Replied;
 use crate::miscounts::{self, Miscount};
+use crate::misnumbers::{self, Misnumber};
 use crate::recipe_mistakes::{self, Fault};
 use crate::report::{Difference, Group, Tally};
 use crate::shrink;
@@ -35,6 +36,8 @@ thread_local! {
     static FAULT: Cell<Option<Fault>> = const { Cell::new(None) };
     /// How the one who plays it counts groups.
     static MISCOUNT: Cell<Option<Miscount>> = const { Cell::new(None) };
+    /// How the one who plays it numbers payloads.
+    static MISNUMBER: Cell<Option<Misnumber>> = const { Cell::new(None) };
     /// Whether the player that makes one edit only has made it.
     static MADE_ONE: Cell<bool> = const { Cell::new(false) };
 }
@@ -55,6 +58,12 @@ pub fn fault() -> Option<Fault> {
 #[must_use]
 pub fn miscount() -> Option<Miscount> {
     MISCOUNT.get()
+}
+
+/// How payloads are numbered, if not by the library.
+#[must_use]
+pub fn misnumber() -> Option<Misnumber> {
+    MISNUMBER.get()
 }
 
 /// How long a difference is shrunk; one that was looked for is not printed.
@@ -349,7 +358,7 @@ const MISTAKES: [Mistake; 32] = [
 ];
 
 /// Runs all groups of edits against plain contents in the library's place, and those named against each mistake; and so the
-/// groups of readings against wrong numbers of groups.
+/// groups of readings against wrong numbers of groups and wrong ordinals.
 #[must_use]
 pub fn run(edits: &[&[Group]], readings: &[&[Group]], options: &Options) -> ExitCode {
     let groups: Vec<&Group> = edits.iter().copied().flatten().collect();
@@ -370,15 +379,7 @@ pub fn run(edits: &[&[Group]], readings: &[&[Group]], options: &Options) -> Exit
         failed |= !is_caught(mistake.name, mistake.caught_by, &groups, options);
     }
     FAULT.set(None);
-    MISCOUNT.set(Some(Miscount::None));
-    for name in miscounts::CATCHING {
-        failed |= !passes(named(name, &readings), options);
-    }
-    for mistake in &miscounts::MISTAKES {
-        MISCOUNT.set(Some(mistake.miscount));
-        failed |= !is_caught(mistake.name, mistake.caught_by, &readings, options);
-    }
-    MISCOUNT.set(None);
+    failed |= !check_readings(&readings, options);
     PLAYER.set(None);
     if failed {
         println!("differential: self-check FAILED");
@@ -387,6 +388,30 @@ pub fn run(edits: &[&[Group]], readings: &[&[Group]], options: &Options) -> Exit
         println!("differential: each mistake was caught");
         ExitCode::SUCCESS
     }
+}
+
+/// The mistakes of readings, with edits that are made as they should be.
+fn check_readings(readings: &[&Group], options: &Options) -> bool {
+    let mut failed = false;
+    MISCOUNT.set(Some(Miscount::None));
+    for name in miscounts::CATCHING {
+        failed |= !passes(named(name, readings), options);
+    }
+    for mistake in &miscounts::MISTAKES {
+        MISCOUNT.set(Some(mistake.miscount));
+        failed |= !is_caught(mistake.name, mistake.caught_by, readings, options);
+    }
+    MISCOUNT.set(None);
+    MISNUMBER.set(Some(Misnumber::None));
+    for name in misnumbers::CATCHING {
+        failed |= !passes(named(name, readings), options);
+    }
+    for mistake in &misnumbers::MISTAKES {
+        MISNUMBER.set(Some(mistake.misnumber));
+        failed |= !is_caught(mistake.name, mistake.caught_by, readings, options);
+    }
+    MISNUMBER.set(None);
+    !failed
 }
 
 /// Runs a group in which no mistake is made.

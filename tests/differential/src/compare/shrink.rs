@@ -163,7 +163,7 @@ pub struct CarrierCase {
     pub ask: Ask,
 }
 
-/// Less in the carrier first, then shorter ones, fewer ones in the bytes, less lent, and a smaller number.
+/// Less in the carrier first, then shorter ones, fewer ones in the bytes, less lent, and smaller numbers.
 pub fn smaller_carriers(case: &CarrierCase) -> Smaller<'_, CarrierCase> {
     let bytes = &case.bytes;
     let shorter = smaller_bytes(bytes).map(|bytes| CarrierCase { bytes, ..*case });
@@ -177,7 +177,8 @@ pub fn smaller_carriers(case: &CarrierCase) -> Smaller<'_, CarrierCase> {
         with_an_earlier_place(case)
             .chain(shorter)
             .chain(less)
-            .chain(with_a_smaller_profile(case)),
+            .chain(with_a_smaller_profile(case))
+            .chain(with_a_smaller_ordinal(case)),
     )
 }
 
@@ -200,6 +201,22 @@ fn with_a_smaller_profile(case: &CarrierCase) -> Option<CarrierCase> {
     is_larger.then(|| CarrierCase {
         bytes: case.bytes.clone(),
         ask: Ask::Verdict { profile: 1 },
+    })
+}
+
+fn with_a_smaller_ordinal(case: &CarrierCase) -> impl Iterator<Item = CarrierCase> + '_ {
+    let asked = match case.ask {
+        Ask::Find { id, ordinal } => Some((id, ordinal)),
+        _ => None,
+    };
+    asked.into_iter().flat_map(move |(id, ordinal)| {
+        [0, 1, ordinal / 2, ordinal.saturating_sub(1)]
+            .into_iter()
+            .filter(move |less| *less < ordinal)
+            .map(move |ordinal| CarrierCase {
+                bytes: case.bytes.clone(),
+                ask: Ask::Find { id, ordinal },
+            })
     })
 }
 

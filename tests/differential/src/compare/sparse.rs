@@ -6,8 +6,8 @@ use crate::judge;
 use crate::lent::Lent;
 use crate::report::{Difference, Group, Tally};
 use differential::carrier::{
-    Ask, Asked, NOT_ONE_OF_EACH, NO_SUCH_PLACE, NO_SYNC_WORD, PROFILE_NOT_MET, ROW,
-    SCRATCH_TOO_SHORT, TABLE_TOO_SHORT,
+    Ask, Asked, NOT_ONE_OF_EACH, NO_SUCH_ORDINAL, NO_SUCH_PLACE, NO_SYNC_WORD, PROFILE_NOT_MET,
+    ROW, SCRATCH_TOO_SHORT, TABLE_TOO_SHORT,
 };
 use differential::case::{
     Call, Cursor, Request, ACCEPTED, INVALID_BOUNDS, TOO_FEW_BITS, TOO_MANY_GROUPS,
@@ -57,6 +57,9 @@ pub const GROUPS: [Group; 2] = [
             ("read", NO_SYNC_WORD),
             ("read", TOO_FEW_BITS),
             ("read", TABLE_TOO_SHORT),
+            ("find_payload", ACCEPTED),
+            ("find_payload", NO_SUCH_ORDINAL),
+            ("find_payload", TOO_FEW_BITS),
             ("move_body", ACCEPTED),
             ("move_body", NO_SUCH_PLACE),
             ("move_body", SCRATCH_TOO_SHORT),
@@ -186,6 +189,14 @@ fn examine(bytes: &[u8], tally: &mut Tally, lent: &mut Lent) -> Result<(), Diffe
     asks.extend([STRICT, 1].map(|profile| Ask::Verdict { profile }));
     for place in [0, 1, facts.count(), 1 << 32] {
         asks.extend([0, 60].map(|scratch| Ask::MoveBody { place, scratch }));
+    }
+    let ids = facts
+        .reading
+        .iter()
+        .flat_map(|found| &found.contents.payloads);
+    let ids: Vec<u64> = ids.map(|payload| payload.id).chain([0]).collect();
+    for ordinal in [0, 1, 2, 1 << 32 | 1] {
+        asks.extend(ids.iter().map(|&id| Ask::Find { id, ordinal }));
     }
     for ask in asks {
         tally.count(ask.name(), facts.reply(ask).number);

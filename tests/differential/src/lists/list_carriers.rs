@@ -1,6 +1,6 @@
 //! Prints the fixed list of carriers with the original's readings for the replay program.
 
-use differential::carrier::{A, B, ORIGINAL_WORDS};
+use differential::carrier::{A, B, ORIGINAL_ROW_WORDS, ORIGINAL_WORDS};
 use differential::contents::Contents;
 use differential::damage;
 use differential::facts;
@@ -79,7 +79,8 @@ impl List {
         let (number, words, rows) = match facts::reading(carrier) {
             Ok(found) => {
                 let words = found.summary()[..ORIGINAL_WORDS].to_vec();
-                (0, words, found.rows().collect())
+                let rows = found.rows().map(|row| row[..ORIGINAL_ROW_WORDS].to_vec());
+                (0, words, rows.collect())
             }
             Err(refusal) => {
                 let words = refusal.reply().words[..ORIGINAL_WORDS].to_vec();

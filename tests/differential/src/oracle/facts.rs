@@ -2,13 +2,14 @@
 
 use crate::carrier::{
     noise, summary, Ask, Found, Reading, Refusal, Reply, Spans, BLANK_ROW, HEADER, HEADER_CUT,
-    MOST_RECORDS, NO_PRIMARY, NO_SUCH_PLACE, NO_SYNC_WORD, PADDING_NOT_ZERO, PADDING_TOO_LONG,
-    RESERVED_NOT_ZERO, ROW, SCRATCH_TOO_SHORT, TABLE_TOO_SHORT, TRUNCATED, VERDICT_WORDS,
-    VERSION_NOT_ZERO,
+    MOST_RECORDS, NO_PRIMARY, NO_SUCH_ORDINAL, NO_SUCH_PLACE, NO_SYNC_WORD, PADDING_NOT_ZERO,
+    PADDING_TOO_LONG, RESERVED_NOT_ZERO, ROW, SCRATCH_TOO_SHORT, TABLE_TOO_SHORT, TRUNCATED,
+    VERDICT_WORDS, VERSION_NOT_ZERO,
 };
 use crate::case::{ACCEPTED, TOO_FEW_BITS, TOO_MANY_GROUPS, VALUE_TOO_LARGE};
 use crate::contents::{Contents, Payload, Settings};
 use crate::groups;
+use crate::ordinals;
 use crate::profile::STRICT;
 use crate::verdict::Verdicts;
 use openjoc_bitio::BitError;
@@ -72,6 +73,7 @@ impl<'a> Facts<'a> {
         match ask {
             Ask::Classify => self.classification().1,
             Ask::Read { table } => self.reading_reply(table),
+            Ask::Find { id, ordinal } => self.find_reply(id, ordinal),
             Ask::MoveBody { place, scratch } => self.body_reply(place, scratch),
             Ask::Verdict { profile: STRICT } | Ask::StrictVerdict => {
                 self.with_groups(self.verdicts.strict)
@@ -178,6 +180,17 @@ impl<'a> Facts<'a> {
                 Refusal::new(TABLE_TOO_SHORT, [self.count() as u64, 0]).reply()
             }
             Ok(found) => Reply::accepted(&found.summary()),
+            Err(refusal) => refusal.reply(),
+        }
+    }
+
+    /// On what the original reads, by the definition: it has no such call itself.
+    fn find_reply(&self, id: u64, ordinal: u64) -> Reply {
+        match &self.reading {
+            Ok(found) => match ordinals::find(&found.contents, id, ordinal) {
+                Some(place) => Reply::accepted(&[place as u64]),
+                None => Reply::new(NO_SUCH_ORDINAL, &[]),
+            },
             Err(refusal) => refusal.reply(),
         }
     }

@@ -6,29 +6,29 @@ use lib.Seq.{sets, length-sets}
 use native.Mathlib.Nat.{sub-zero}
 use Rattle.emdf_trials.proofs.Stored.{row-stored, rows-done}
 use Rattle.emdf_answers.specs.Carriers.{rowsBytes}
-use Rattle.emdf_trials.proofs.put_records.Statement.{statement}
-use Rattle.emdf_trials.proofs.put_records.Tie as tie
+use Rattle.emdf_trials.proofs.put_table.Statement.{statement}
+use Rattle.emdf_trials.proofs.put_table.Tie as tie
 
 abbrev Inv-loop : tie.InvT-loop
-Inv-loop table₀ rows records i₀ table i = (i ≤ rows) × (length table ≡ length table₀) × (sets table (i * 216) (rowsBytes (take (rows - i) (drop i records))) ≡ sets table₀ 0 (rowsBytes (take rows records)))
+Inv-loop table₀ rows lent i₀ table i = (i ≤ rows) × (length table ≡ length table₀) × (sets table (i * 224) (rowsBytes (take (rows - i) (drop i lent))) ≡ sets table₀ 0 (rowsBytes (take rows lent)))
 
 abbrev μ-loop : tie.MeasureT-loop
-μ-loop table₀ rows records i₀ table i = rows - i
+μ-loop table₀ rows lent i₀ table i = rows - i
 
 loop-holds : tie.Need-loop-holds Inv-loop μ-loop
 loop-holds c = (omega arith, refl, rw sub-zero)
 
-mul-record : tie.Need-mul-record Inv-loop μ-loop
-mul-record c = omega arith
+mul-row : tie.Need-mul-row Inv-loop μ-loop
+mul-row c = omega arith
 
-array-copy-out-record : tie.Need-array-copy-out-record Inv-loop μ-loop
-array-copy-out-record c = omega arith
+array-copy-out-row : tie.Need-array-copy-out-row Inv-loop μ-loop
+array-copy-out-row c = omega arith
 
-mul-put-record : tie.Need-mul-put-record Inv-loop μ-loop
-mul-put-record c = omega arith
+mul-put-row : tie.Need-mul-put-row Inv-loop μ-loop
+mul-put-row c = omega arith
 
-put-record-requires : tie.Need-put-record-requires Inv-loop μ-loop
-put-record-requires c κs = omega arith
+put-row-requires : tie.Need-put-row-requires Inv-loop μ-loop
+put-row-requires c κs = omega arith
 
 add-i : tie.Need-add-i Inv-loop μ-loop
 add-i c = omega arith
@@ -39,7 +39,7 @@ loop-less c = omega arith
 loop-again : tie.Need-loop-again Inv-loop μ-loop
 loop-again c =
     let b = c .before .before .before .before .before .before in
-    let e = c .before .before .put-record .ensures in
+    let e = c .before .before .put-row .ensures in
     let k : b .loop .i < length (b .before .before .args .t2) = omega arith in
     (omega arith, ap length e ∙ simp length-sets (b .loop .inv .1), rw e (row-stored _ _ _ _ _ (c .before .before .before .before .before .loop-test .taken) k) ∙ b .loop .inv .2)
 
@@ -49,17 +49,17 @@ same-length c = c .before .loop .inv .1
 returns : tie.Need-returns Inv-loop μ-loop
 returns c = rows-done _ _ _ _ (c .loop-test .left) ∙ c .before .loop .inv .2
 
-pub put-records-spec : {M : Type 1} → statement M
-put-records-spec =
+pub put-table-spec : {M : Type 1} → statement M
+put-table-spec =
     tie.close
     (tie.spec
     Inv-loop
     μ-loop
     loop-holds
-    mul-record
-    array-copy-out-record
-    mul-put-record
-    put-record-requires
+    mul-row
+    array-copy-out-row
+    mul-put-row
+    put-row-requires
     add-i
     loop-less
     loop-again
