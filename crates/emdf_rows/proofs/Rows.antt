@@ -16,7 +16,6 @@ use Rattle.emdf_format.specs.Reader.{cursorAt}
 use Rattle.emdf_format.specs.Reading.{Found, payloadsOf}
 use Rattle.emdf_format.specs.Ordinals.{ordinalAt, idsOf, idsIn, rowsFrom, rowsOf}
 use Rattle.emdf_format.proofs.Bytes.{sets-append}
-use Rattle.emdf_format.proofs.Ordinals.{length-ids-in}
 use Rattle.emdf_format.specs.declared.Optional.{Optional}
 use Rattle.emdf_format.specs.declared.Optional.the-variants.{Absent, Present}
 use Rattle.emdf_format.specs.declared.EmdfPayloadConfig.{EmdfPayloadConfig}
@@ -162,9 +161,6 @@ left-all {slots = slots} xs z l e =
     record { found = xs; listed = l; counted = omega arith; ahead = refl; numbers = λ j h. absurd (omega arith); tracks = rw z (tracks-none (length slots) (idsIn xs)); rows = refl }
 
 module _ {s table slots complete ids : List ℕ} {at : BitCursor} {place count : ℕ} (l : Left s at ids place count table slots complete) where
-  length-all : place ≤ length ids → length ids ≡ count
-  length-all h = omega (arith, l .counted, length-ids-in (l .found), ap length (l .ahead), length-drop place ids)
-
   pub left-searchable : place ≤ length ids → Searchable table slots place
   left-searchable h x =
       let w = l .tracks .within x in
