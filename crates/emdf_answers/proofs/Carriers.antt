@@ -6,47 +6,47 @@ use lib.ListN.{get_or}
 use Rattle.emdf_format.specs.declared.Optional.{Optional}
 use Rattle.emdf_format.specs.declared.Optional.TheVariants.{Absent, Present}
 use Rattle.emdf_format.specs.declared.EmdfPayloadConfig.{EmdfPayloadConfig}
-use Rattle.emdf_answers.specs.Carriers.{optionalWords, configWords}
+use Rattle.emdf_answers.specs.Carriers.{optional_words, config_words}
 
 -- ---- a row
 
-abbrev pub presenceOf : Optional → ℕ
-presenceOf o = get_or (optionalWords o) 0 0
+abbrev pub presence_of : Optional → ℕ
+presence_of o = get_or (optional_words o) 0 0
 
 abbrev pub value_of : Optional → ℕ
-value_of o = get_or (optionalWords o) 1 0
+value_of o = get_or (optional_words o) 1 0
 
 -- a setting's two numbers, and what follows them
-optional_then : (o : Optional) {xs ys : List ℕ} → xs ≡ ys → presenceOf o ∷ value_of o ∷ xs ≡ optionalWords o ++ ys
-unfolding optionalWords
+optional_then : (o : Optional) {xs ys : List ℕ} → xs ≡ ys → presence_of o ∷ value_of o ∷ xs ≡ optional_words o ++ ys
+unfolding optional_words
 optional_then Absent e = rw e
 optional_then (Present v) e = rw e
 
 -- the 18 numbers one by one
 abbrev pub listed : EmdfPayloadConfig → List ℕ
 listed t =
-    presenceOf t.sample_offset
+    presence_of t.sample_offset
     ∷ value_of t.sample_offset
-    ∷ presenceOf t.duration
+    ∷ presence_of t.duration
     ∷ value_of t.duration
-    ∷ presenceOf t.group_id
+    ∷ presence_of t.group_id
     ∷ value_of t.group_id
     ∷ t.codec_data_present
     ∷ t.discard_unknown_payload
-    ∷ presenceOf t.payload_frame_aligned
+    ∷ presence_of t.payload_frame_aligned
     ∷ value_of t.payload_frame_aligned
-    ∷ presenceOf t.create_duplicate
+    ∷ presence_of t.create_duplicate
     ∷ value_of t.create_duplicate
-    ∷ presenceOf t.remove_duplicate
+    ∷ presence_of t.remove_duplicate
     ∷ value_of t.remove_duplicate
-    ∷ presenceOf t.priority
+    ∷ presence_of t.priority
     ∷ value_of t.priority
-    ∷ presenceOf t.processing_allowed
+    ∷ presence_of t.processing_allowed
     ∷ value_of t.processing_allowed
     ∷ []
 
-pub config-listed : (t : EmdfPayloadConfig) → listed t ≡ configWords t
-unfolding configWords
+pub config-listed : (t : EmdfPayloadConfig) → listed t ≡ config_words t
+unfolding config_words
 config-listed t =
     simp append_assoc
     (optional_then _

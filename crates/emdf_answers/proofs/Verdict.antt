@@ -2,9 +2,9 @@
 use mathlib.Core.Path.{◌≡◌, refl}
 use Prim.Native.Nat.{ℕ, zero, suc}
 use Rattle.emdf_format.specs.declared.JocValidationProfile.TheVariants.{ObservedVendorCompat}
-use Rattle.emdf_answers.specs.Verdict.{profileOf}
+use Rattle.emdf_answers.specs.Verdict.{profile_of}
 
-pub compat : (n : ℕ) → (n ≡ 0 → ⊥) → ObservedVendorCompat ≡ profileOf n
-unfolding profileOf
+pub compat : (n : ℕ) → (n ≡ 0 → ⊥) → ObservedVendorCompat ≡ profile_of n
+unfolding profile_of
 compat zero h = absurd (h refl)
 compat (suc n) h = refl

@@ -1,7 +1,6 @@
 -- What each exported bit call returns and writes: docs/HOST.md, 'Bit calls'. Assumes nothing.
-use Rattle.std.specs.Prelude.{◌≡◌, ℕ, List, [], ◌∷◌}
-use Rattle.openjoc_bitio.specs.Choice.{if◌then◌else◌}
-use Rattle.openjoc_bitio.specs.Cursor.{wholeSlice, bitsRemaining, readBits, readBit, takeBits, byteAlign}
+use Rattle.std.specs.Prelude.{◌≡◌, ℕ, List, [], ◌∷◌, if◌then◌else◌}
+use Rattle.openjoc_bitio.specs.Cursor.{whole_slice, bits_remaining, read_bits, read_bit, take_bits, byte_align}
 use Rattle.openjoc_bitio.specs.declared.BitCursor.{BitCursor}
 use Rattle.openjoc_bitio.specs.declared.BitsAnswer.{BitsAnswer}
 use Rattle.openjoc_bitio.specs.declared.BitsAnswer.TheVariants as BitsAnswer
@@ -11,8 +10,8 @@ use Rattle.openjoc_bitio.specs.declared.WindowAnswer.{WindowAnswer}
 use Rattle.openjoc_bitio.specs.declared.WindowAnswer.TheVariants as WindowAnswer
 use Rattle.openjoc_bitio.specs.declared.AlignAnswer.{AlignAnswer}
 use Rattle.openjoc_bitio.specs.declared.AlignAnswer.TheVariants as AlignAnswer
-use Rattle.emdf_format.specs.Reader.{cursorAt}
-use Rattle.emdf_format.specs.Refusals.{refusalOf, figuresOf}
+use Rattle.emdf_format.specs.Reader.{cursor_at}
+use Rattle.emdf_format.specs.Refusals.{refusal_of, figures_of}
 use Rattle.emdf_format.specs.declared.EmdfError.{EmdfError}
 use Rattle.emdf_format.specs.declared.EmdfError.TheVariants.{Bit}
 use Rattle.emdf_format.specs.declared.Figures.{Figures}
@@ -20,8 +19,8 @@ use Rattle.emdf_answers.specs.Form.{words}
 use Rattle.emdf_answers.specs.declared.BitReply.{BitReply}
 
 -- the six numbers of an answer
-abbrev pub replyWords : BitReply → List ℕ
-replyWords r =
+abbrev pub reply_words : BitReply → List ℕ
+reply_words r =
     r.first
     ∷ r.second
     ∷ r.cursor.position
@@ -32,52 +31,52 @@ replyWords r =
 
 -- what is returned and written is the reply
 abbrev pub BitReplies : BitReply → ℕ → List ℕ → Type 0
-BitReplies a r answer = (r ≡ a.number) × (answer ≡ words (replyWords a))
+BitReplies a r answer = (r ≡ a.number) × (answer ≡ words (reply_words a))
 
 -- a number, two figures, and a cursor
-abbrev pub figuresAt : BitCursor → Figures → BitReply
-figuresAt c f = record { number = f.number; first = f.first; second = f.second; cursor = c; window = cursorAt 0 0 }
+abbrev pub figures_at : BitCursor → Figures → BitReply
+figures_at c f = record { number = f.number; first = f.first; second = f.second; cursor = c; window = cursor_at 0 0 }
 
 -- accepted: the value, and the cursor after it
 abbrev pub accepted : BitCursor → ℕ → BitReply
-accepted c v = figuresAt c (record { number = 0; first = v; second = 0 })
+accepted c v = figures_at c (record { number = 0; first = v; second = 0 })
 
 -- refused: the scope's number and figures
-unfoldable pub refusedAt : BitCursor → EmdfError → BitReply
-refusedAt c why = figuresAt c (figuresOf (refusalOf why))
+unfoldable pub refused_at : BitCursor → EmdfError → BitReply
+refused_at c why = figures_at c (figures_of (refusal_of why))
 
-unfoldable pub bitsReply : BitCursor → BitsAnswer → BitReply
-bitsReply c (BitsAnswer.Value v next) = accepted next v
-bitsReply c (BitsAnswer.Refused why) = refusedAt c (Bit why)
+unfoldable pub bits_reply : BitCursor → BitsAnswer → BitReply
+bits_reply c (BitsAnswer.Value v next) = accepted next v
+bits_reply c (BitsAnswer.Refused why) = refused_at c (Bit why)
 
-unfoldable pub bitReply : BitCursor → BitAnswer → BitReply
-bitReply c (BitAnswer.Bit b next) = accepted next (if b then 1 else 0)
-bitReply c (BitAnswer.Refused why) = refusedAt c (Bit why)
+unfoldable pub bit_reply : BitCursor → BitAnswer → BitReply
+bit_reply c (BitAnswer.Bit b next) = accepted next (if b then 1 else 0)
+bit_reply c (BitAnswer.Refused why) = refused_at c (Bit why)
 
-unfoldable pub windowReply : BitCursor → WindowAnswer → BitReply
-windowReply c (WindowAnswer.Window w next) = record { number = 0; first = 0; second = 0; cursor = next; window = w }
-windowReply c (WindowAnswer.Refused why) = refusedAt c (Bit why)
+unfoldable pub window_reply : BitCursor → WindowAnswer → BitReply
+window_reply c (WindowAnswer.Window w next) = record { number = 0; first = 0; second = 0; cursor = next; window = w }
+window_reply c (WindowAnswer.Refused why) = refused_at c (Bit why)
 
-unfoldable pub alignReply : BitCursor → AlignAnswer → BitReply
-alignReply c (AlignAnswer.Aligned next) = accepted next 0
-alignReply c (AlignAnswer.Refused why) = refusedAt c (Bit why)
+unfoldable pub align_reply : BitCursor → AlignAnswer → BitReply
+align_reply c (AlignAnswer.Aligned next) = accepted next 0
+align_reply c (AlignAnswer.Refused why) = refused_at c (Bit why)
 
 -- ---- the exported calls: the library's answer at the host's cursor, in that form
 
-unfoldable pub newReply : List ℕ → BitReply
-newReply s = accepted (wholeSlice s) 0
+unfoldable pub new_reply : List ℕ → BitReply
+new_reply s = accepted (whole_slice s) 0
 
-unfoldable pub remainingReply : List ℕ → ℕ → ℕ → BitReply
-remainingReply s p e = accepted (cursorAt e p) (bitsRemaining s (cursorAt e p))
+unfoldable pub remaining_reply : List ℕ → ℕ → ℕ → BitReply
+remaining_reply s p e = accepted (cursor_at e p) (bits_remaining s (cursor_at e p))
 
-unfoldable pub readBitsReply : List ℕ → ℕ → ℕ → ℕ → BitReply
-readBitsReply s p e w = bitsReply (cursorAt e p) (readBits s (cursorAt e p) w)
+unfoldable pub read_bits_reply : List ℕ → ℕ → ℕ → ℕ → BitReply
+read_bits_reply s p e w = bits_reply (cursor_at e p) (read_bits s (cursor_at e p) w)
 
-unfoldable pub readBitReply : List ℕ → ℕ → ℕ → BitReply
-readBitReply s p e = bitReply (cursorAt e p) (readBit s (cursorAt e p))
+unfoldable pub read_bit_reply : List ℕ → ℕ → ℕ → BitReply
+read_bit_reply s p e = bit_reply (cursor_at e p) (read_bit s (cursor_at e p))
 
-unfoldable pub takeBitsReply : List ℕ → ℕ → ℕ → ℕ → BitReply
-takeBitsReply s p e n = windowReply (cursorAt e p) (takeBits s (cursorAt e p) n)
+unfoldable pub take_bits_reply : List ℕ → ℕ → ℕ → ℕ → BitReply
+take_bits_reply s p e n = window_reply (cursor_at e p) (take_bits s (cursor_at e p) n)
 
-unfoldable pub byteAlignReply : List ℕ → ℕ → ℕ → BitReply
-byteAlignReply s p e = alignReply (cursorAt e p) (byteAlign s (cursorAt e p))
+unfoldable pub byte_align_reply : List ℕ → ℕ → ℕ → BitReply
+byte_align_reply s p e = align_reply (cursor_at e p) (byte_align s (cursor_at e p))

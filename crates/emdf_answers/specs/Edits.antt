@@ -1,17 +1,17 @@
 -- What the exported edits and the blank call return and write: docs/HOST.md, 'Edit calls'. Assumes nothing.
 use Rattle.std.specs.Prelude.{◌≡◌, List, ℕ}
-use Rattle.emdf_format.specs.Refusals.{editRefusal, figuresOf}
+use Rattle.emdf_format.specs.Refusals.{edit_refusal, figures_of}
 use Rattle.emdf_format.specs.Edits.{Edited}
 use Rattle.emdf_format.specs.declared.EditAnswer.{EditAnswer}
 use Rattle.emdf_format.specs.declared.EditAnswer.TheVariants.{Written, Refused}
 use Rattle.emdf_format.specs.declared.Figures.{Figures}
-use Rattle.emdf_answers.specs.Replies.{twoReply, Replies}
+use Rattle.emdf_answers.specs.Replies.{two_reply, Replies}
 
 -- accepted: the new carrier's length
-unfoldable pub editedFigures : EditAnswer → Figures
-editedFigures (Written n) = record { number = 0; first = n.0; second = 0 }
-editedFigures (Refused why) = figuresOf (editRefusal why)
+unfoldable pub edited_figures : EditAnswer → Figures
+edited_figures (Written n) = record { number = 0; first = n.0; second = 0 }
+edited_figures (Refused why) = figures_of (edit_refusal why)
 
 -- the number, the answer's bytes, and the destination at exit
 abbrev pub EditReplies : Edited → ℕ → List ℕ → List ℕ → Type 0
-EditReplies e r answer exit = Replies (twoReply (editedFigures e.answer)) r answer × (exit ≡ e.destination)
+EditReplies e r answer exit = Replies (two_reply (edited_figures e.answer)) r answer × (exit ≡ e.destination)

@@ -13,16 +13,16 @@ padded zero vs = []
 padded (suc n) [] = 0 ∷ padded n []
 padded (suc n) (v ∷ vs) = v ∷ padded n vs
 
-abbrev pub acceptedReply : List ℕ → Reply
-acceptedReply vs = record { number = 0; numbers = vs }
+abbrev pub accepted_reply : List ℕ → Reply
+accepted_reply vs = record { number = 0; numbers = vs }
 
 -- a refusal among n numbers: its figures, and zeros
-abbrev pub refusedReply : ℕ → Figures → Reply
-refusedReply n f = record { number = f.number; numbers = padded n (f.first ∷ f.second ∷ []) }
+abbrev pub refused_reply : ℕ → Figures → Reply
+refused_reply n f = record { number = f.number; numbers = padded n (f.first ∷ f.second ∷ []) }
 
 -- an answer of two numbers
-abbrev pub twoReply : Figures → Reply
-twoReply f = record { number = f.number; numbers = f.first ∷ f.second ∷ [] }
+abbrev pub two_reply : Figures → Reply
+two_reply f = record { number = f.number; numbers = f.first ∷ f.second ∷ [] }
 
 -- what is returned and written is the reply
 abbrev pub Replies : Reply → ℕ → List ℕ → Type 0

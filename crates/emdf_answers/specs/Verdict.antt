@@ -1,24 +1,24 @@
 -- What the exported verdict returns and writes: docs/HOST.md, 'emdf_verdict'. Assumes nothing.
 use Rattle.std.specs.Prelude.{ℕ, zero, suc, [], ◌∷◌}
-use Rattle.emdf_format.specs.Refusals.{profileRefusal, figuresOf}
+use Rattle.emdf_format.specs.Refusals.{profile_refusal, figures_of}
 use Rattle.emdf_format.specs.declared.JocValidationProfile.{JocValidationProfile}
 use Rattle.emdf_format.specs.declared.JocValidationProfile.TheVariants.{EtsiStrict, ObservedVendorCompat}
 use Rattle.emdf_format.specs.declared.JocValidationStatus.{JocValidationStatus}
 use Rattle.emdf_format.specs.declared.JocValidationStatus.TheVariants.{NormativeCompliant, AcceptedWithDeviation}
 use Rattle.emdf_format.specs.declared.JocProfileAnswer.{JocProfileAnswer}
 use Rattle.emdf_format.specs.declared.JocProfileAnswer.TheVariants.{Accepted, Refused}
-use Rattle.emdf_answers.specs.Replies.{Reply, acceptedReply, refusedReply}
+use Rattle.emdf_answers.specs.Replies.{Reply, accepted_reply, refused_reply}
 
 -- the policy of a host's number
-unfoldable pub profileOf : ℕ → JocValidationProfile
-profileOf zero = EtsiStrict
-profileOf (suc n) = ObservedVendorCompat
+unfoldable pub profile_of : ℕ → JocValidationProfile
+profile_of zero = EtsiStrict
+profile_of (suc n) = ObservedVendorCompat
 
-abbrev pub statusWord : JocValidationStatus → ℕ
-statusWord NormativeCompliant = 0
-statusWord AcceptedWithDeviation = 1
+abbrev pub status_word : JocValidationStatus → ℕ
+status_word NormativeCompliant = 0
+status_word AcceptedWithDeviation = 1
 
 -- accepted: the places of the OAMD and the JOC payload, the marks, whether any is set, the largest number of groups
-unfoldable pub verdictReply : JocProfileAnswer → Reply
-verdictReply (Accepted v) = acceptedReply (v.oamd ∷ v.joc ∷ v.deviations ∷ statusWord v.status ∷ v.largest_groups ∷ [])
-verdictReply (Refused why) = refusedReply 5 (figuresOf (profileRefusal why))
+unfoldable pub verdict_reply : JocProfileAnswer → Reply
+verdict_reply (Accepted v) = accepted_reply (v.oamd ∷ v.joc ∷ v.deviations ∷ status_word v.status ∷ v.largest_groups ∷ [])
+verdict_reply (Refused why) = refused_reply 5 (figures_of (profile_refusal why))

@@ -1,12 +1,12 @@
 // The answers to a C host as numbers. docs/HOST.md has each byte form.
 ghost use Rattle.std.specs.Prelude.{◌≡◌, [], ◌∷◌, length, get_or};
 ghost use Rattle.emdf_format.specs.declared.Figures.{Figures};
-ghost use Rattle.emdf_answers.specs.Bits.{accepted, refusedAt, bitsReply, bitReply, windowReply, alignReply, figuresAt};
-ghost use Rattle.emdf_answers.specs.Fields.{fieldReply};
+ghost use Rattle.emdf_answers.specs.Bits.{accepted, refused_at, bits_reply, bit_reply, window_reply, align_reply, figures_at};
+ghost use Rattle.emdf_answers.specs.Fields.{field_reply};
 ghost use Rattle.emdf_answers.specs.Replies.{padded};
-ghost use Rattle.emdf_answers.specs.Carriers.{parsedWords, optionalWords, configWords, traceWords, classReply, moveFigures, findFigures};
-ghost use Rattle.emdf_answers.specs.Verdict.{profileOf, verdictReply, statusWord};
-ghost use Rattle.emdf_answers.specs.Edits.{editedFigures};
+ghost use Rattle.emdf_answers.specs.Carriers.{parsed_words, optional_words, config_words, trace_words, class_reply, move_figures, find_figures};
+ghost use Rattle.emdf_answers.specs.Verdict.{profile_of, verdict_reply, status_word};
+ghost use Rattle.emdf_answers.specs.Edits.{edited_figures};
 
 use emdf_fields::VariableAnswer;
 use emdf_format::{
@@ -37,7 +37,7 @@ pub struct FieldReply {
 }
 
 pub fn field_reply(answer: VariableAnswer) -> FieldReply
-    ensures { result ≡ fieldReply answer }
+    ensures { result ≡ field_reply answer }
 {
     match answer {
         VariableAnswer::Value(value, groups, next) => FieldReply {
@@ -52,7 +52,7 @@ pub fn field_reply(answer: VariableAnswer) -> FieldReply
 }
 
 pub fn bits_reply(cursor: BitCursor, answer: BitsAnswer) -> BitReply
-    ensures { result ≡ bitsReply cursor answer }
+    ensures { result ≡ bits_reply cursor answer }
 {
     match answer {
         BitsAnswer::Value(value, next) => accepted_at(next, value),
@@ -61,7 +61,7 @@ pub fn bits_reply(cursor: BitCursor, answer: BitsAnswer) -> BitReply
 }
 
 pub fn bit_reply(cursor: BitCursor, answer: BitAnswer) -> BitReply
-    ensures { result ≡ bitReply cursor answer }
+    ensures { result ≡ bit_reply cursor answer }
 {
     match answer {
         BitAnswer::Bit(bit, next) => accepted_at(next, bit as u64),
@@ -70,7 +70,7 @@ pub fn bit_reply(cursor: BitCursor, answer: BitAnswer) -> BitReply
 }
 
 pub fn window_reply(cursor: BitCursor, answer: WindowAnswer) -> BitReply
-    ensures { result ≡ windowReply cursor answer }
+    ensures { result ≡ window_reply cursor answer }
 {
     match answer {
         WindowAnswer::Window(window, next) => BitReply {
@@ -85,7 +85,7 @@ pub fn window_reply(cursor: BitCursor, answer: WindowAnswer) -> BitReply
 }
 
 pub fn align_reply(cursor: BitCursor, answer: AlignAnswer) -> BitReply
-    ensures { result ≡ alignReply cursor answer }
+    ensures { result ≡ align_reply cursor answer }
 {
     match answer {
         AlignAnswer::Aligned(next) => accepted_at(next, 0),
@@ -107,13 +107,13 @@ pub fn accepted_at(cursor: BitCursor, value: u64) -> BitReply
 }
 
 fn refused_at(cursor: BitCursor, why: EmdfError) -> BitReply
-    ensures { result ≡ refusedAt cursor why }
+    ensures { result ≡ refused_at cursor why }
 {
     figures_at(cursor, figures_of(refusal_of(why)))
 }
 
 fn figures_at(cursor: BitCursor, f: Figures) -> BitReply
-    ensures { result ≡ figuresAt cursor f }
+    ensures { result ≡ figures_at cursor f }
 {
     BitReply {
         number: f.number,
@@ -129,7 +129,7 @@ fn figures_at(cursor: BitCursor, f: Figures) -> BitReply
 
 // The class, and ten numbers.
 pub fn class_words(class: CarrierClassification) -> [u64; 11]
-    ensures { result ≡ (classReply class).numbers }
+    ensures { result ≡ (class_reply class).numbers }
 {
     match class {
         CarrierClassification::NonEmdf => [0; 11],
@@ -160,7 +160,7 @@ pub fn class_words(class: CarrierClassification) -> [u64; 11]
 }
 
 pub fn class_number(class: CarrierClassification) -> u32
-    ensures { result ≡ (classReply class).number }
+    ensures { result ≡ (class_reply class).number }
 {
     match class {
         CarrierClassification::Malformed(why) => figures_of(refusal_of(why)).number,
@@ -178,7 +178,7 @@ fn with_class(class: u64, w: [u64; 10]) -> [u64; 11]
 
 // An accepted reading's ten numbers.
 pub fn parsed_words(p: ParsedEmdf) -> [u64; 10]
-    ensures { result ≡ parsedWords p }
+    ensures { result ≡ parsed_words p }
 {
     let c = p.container;
     let primary = c.protection.primary;
@@ -206,7 +206,7 @@ pub fn figure_words(f: Figures) -> [u64; 10]
 
 // The ten settings as 18 numbers, in the order in which they are written.
 pub fn config_words(t: EmdfPayloadConfig) -> [u64; 18]
-    ensures { result ≡ configWords t }
+    ensures { result ≡ config_words t }
 {
     let offset = t.sample_offset;
     let duration = t.duration;
@@ -239,7 +239,7 @@ pub fn config_words(t: EmdfPayloadConfig) -> [u64; 18]
 }
 
 fn presence(o: Optional) -> u64
-    ensures { result ≡ get_or (optionalWords o) 0 0 }
+    ensures { result ≡ get_or (optional_words o) 0 0 }
 {
     match o {
         Optional::Absent => 0,
@@ -248,7 +248,7 @@ fn presence(o: Optional) -> u64
 }
 
 fn value_or_zero(o: Optional) -> u64
-    ensures { result ≡ get_or (optionalWords o) 1 0 }
+    ensures { result ≡ get_or (optional_words o) 1 0 }
 {
     match o {
         Optional::Absent => 0,
@@ -257,7 +257,7 @@ fn value_or_zero(o: Optional) -> u64
 }
 
 pub fn trace_words(t: EmdfPayloadBitTrace) -> [u64; 8]
-    ensures { result ≡ traceWords t }
+    ensures { result ≡ trace_words t }
 {
     [
         t.payload_id_start_bit.0 as u64,
@@ -272,7 +272,7 @@ pub fn trace_words(t: EmdfPayloadBitTrace) -> [u64; 8]
 }
 
 pub fn find_figures(found: FindAnswer) -> Figures
-    ensures { result ≡ findFigures found }
+    ensures { result ≡ find_figures found }
 {
     match found {
         FindAnswer::Place(place) => Figures {
@@ -285,7 +285,7 @@ pub fn find_figures(found: FindAnswer) -> Figures
 }
 
 pub fn move_figures(moved: BodyAnswer) -> Figures
-    ensures { result ≡ moveFigures moved }
+    ensures { result ≡ move_figures moved }
 {
     match moved {
         BodyAnswer::Body(start, length) => Figures {
@@ -298,7 +298,7 @@ pub fn move_figures(moved: BodyAnswer) -> Figures
 }
 
 pub fn edited_figures(edited: EditAnswer) -> Figures
-    ensures { result ≡ editedFigures edited }
+    ensures { result ≡ edited_figures edited }
 {
     match edited {
         EditAnswer::Written(length) => Figures {
@@ -311,7 +311,7 @@ pub fn edited_figures(edited: EditAnswer) -> Figures
 }
 
 pub fn profile_of(number: u32) -> JocValidationProfile
-    ensures { result ≡ profileOf number }
+    ensures { result ≡ profile_of number }
 {
     if number == 0 {
         return JocValidationProfile::EtsiStrict;
@@ -321,7 +321,7 @@ pub fn profile_of(number: u32) -> JocValidationProfile
 
 // Both places, the marks, whether any is set and the largest number of groups, or a refusal's figures.
 pub fn verdict_words(judged: JocProfileAnswer) -> [u64; 5]
-    ensures { result ≡ (verdictReply judged).numbers }
+    ensures { result ≡ (verdict_reply judged).numbers }
 {
     match judged {
         JocProfileAnswer::Accepted(v) => {
@@ -342,7 +342,7 @@ pub fn verdict_words(judged: JocProfileAnswer) -> [u64; 5]
 }
 
 pub fn verdict_number(judged: JocProfileAnswer) -> u32
-    ensures { result ≡ (verdictReply judged).number }
+    ensures { result ≡ (verdict_reply judged).number }
 {
     match judged {
         JocProfileAnswer::Accepted(_) => 0,
@@ -351,7 +351,7 @@ pub fn verdict_number(judged: JocProfileAnswer) -> u32
 }
 
 fn status_word(status: JocValidationStatus) -> u64
-    ensures { result ≡ statusWord status }
+    ensures { result ≡ status_word status }
 {
     match status {
         JocValidationStatus::NormativeCompliant => 0,

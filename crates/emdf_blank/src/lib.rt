@@ -1,7 +1,7 @@
 // The blank carrier: a key id and protections, without payloads.
 ghost use Rattle.std.specs.Prelude.{◌≡◌, ◌+◌, ◌<◌, ◌≤◌, length};
-ghost use Rattle.emdf_format.specs.Contents.{carrierBits, declared};
-ghost use Rattle.emdf_format.specs.Edits.{blankContents, blank, Gives};
+ghost use Rattle.emdf_format.specs.Contents.{carrier_bits, declared};
+ghost use Rattle.emdf_format.specs.Edits.{blank_contents, blank, Gives};
 ghost use Rattle.emdf_field_writer.specs.Fields.{Put};
 
 use emdf_format::{EditAnswer, EditError};
@@ -10,7 +10,7 @@ use openjoc_bitio::{BitOffset, ByteCount};
 // The declared length of a blank carrier.
 fn blank_declared(key: u64, primary: &[u8], secondary: &[u8]) -> ByteCount
     requires { (length primary.now ≤ 16) × (length secondary.now ≤ 16) }
-    ensures { (result.0 ≡ declared (blankContents key primary.now secondary.now)) × (result.0 < 65536) }
+    ensures { (result.0 ≡ declared (blank_contents key primary.now secondary.now)) × (result.0 < 65536) }
 {
     let bits = emdf_measure::key_bits(key) + 5 + 4 + 8 * (primary.len() + secondary.len());
     ByteCount((bits + 7) / 8)
@@ -24,8 +24,8 @@ fn put_blank(
     primary: &[u8],
     secondary: &[u8],
 ) -> BitOffset
-    requires { (size.0 ≡ declared (blankContents key primary.now secondary.now)) × (length out.old ≡ 4 + size.0) × (size.0 < 65536) }
-    ensures { Put out.old 0 (carrierBits (blankContents key primary.now secondary.now)) out.new result.0 }
+    requires { (size.0 ≡ declared (blank_contents key primary.now secondary.now)) × (length out.old ≡ 4 + size.0) × (size.0 < 65536) }
+    ensures { Put out.old 0 (carrier_bits (blank_contents key primary.now secondary.now)) out.new result.0 }
 {
     let header = emdf_field_writer::put_header(out, size, key);
     let mark = emdf_field_writer::put_field(out, header, 5, 0);

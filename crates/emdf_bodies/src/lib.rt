@@ -2,9 +2,9 @@
 ghost use Rattle.std.specs.Prelude.{◌≡◌, List, ◌-◌, ◌/◌, ◌≤◌};
 ghost use Rattle.std.proofs.Math.ListN.{get_elem?};
 ghost use Rattle.emdf_format.specs.Reading.{Found, reading};
-ghost use Rattle.emdf_format.specs.Calls.{found_at, MovesBody, chooseBody};
+ghost use Rattle.emdf_format.specs.Calls.{found_at, MovesBody, choose_body};
 ghost use Rattle.emdf_payloads.specs.Payloads.{Listed};
-ghost use Rattle.emdf_bodies.specs.Bodies.{body_of, findBody};
+ghost use Rattle.emdf_bodies.specs.Bodies.{body_of, find_body};
 
 use emdf_format::{BodyAnswer, BodyError, EmdfPayloadBitTrace};
 use emdf_payloads::{PayloadStep, next_payload};
@@ -31,7 +31,7 @@ pub fn move_body(bytes: &[u8], place: usize, scratch: &mut [u8]) -> BodyAnswer
 
 // The body: a part of the carrier where it starts on a byte, else of the scratch. Empty where the move refuses.
 pub fn choose_body<'a>(bytes: &'a [u8], place: usize, scratch: &'a [u8]) -> &'a [u8]
-    ensures { result.now ≡ chooseBody (found_at (reading bytes.now) place) bytes.now scratch.now }
+    ensures { result.now ≡ choose_body (found_at (reading bytes.now) place) bytes.now scratch.now }
 {
     let a = find_body(bytes, place);
     let BodyAnswer::Body(start, length) = a else {
@@ -52,7 +52,7 @@ pub fn choose_body<'a>(bytes: &'a [u8], place: usize, scratch: &'a [u8]) -> &'a 
 
 // Where the body of the payload at place is.
 fn find_body(bytes: &[u8], place: usize) -> BodyAnswer
-    ensures { result ≡ findBody (reading bytes.now) place }
+    ensures { result ≡ find_body (reading bytes.now) place }
 {
     let a = open_carrier(bytes);
     match a {

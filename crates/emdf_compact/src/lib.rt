@@ -1,14 +1,13 @@
 // Settings and sizes that lie in words of 64 bits, read without a cursor.
-ghost use Rattle.std.specs.Prelude.{◌≡◌, ◌≤◌};
-ghost use Rattle.emdf_compact.specs.Words.{flaggedSpan, flaggedValue, flaggedEnds, variableSpan, variableValue, variableEnds, codecSpan, codecEnds, presentSpan, presentValue, controlsSpan, compactControls, compactConfig, configLength, groupedLength, groupedHead, sizeLength, sizeValue};
-ghost use Rattle.openjoc_bitio.specs.Choice.{if◌then◌else◌};
+ghost use Rattle.std.specs.Prelude.{◌≡◌, ◌≤◌, if◌then◌else◌};
+ghost use Rattle.emdf_compact.specs.Words.{flagged_span, flagged_value, flagged_ends, variable_span, variable_value, variable_ends, codec_span, codec_ends, present_span, present_value, controls_span, compact_controls, compact_config, config_length, grouped_length, grouped_head, size_length, size_value};
 
 use emdf_format::{EmdfPayloadConfig, Optional};
 
 // A flag and, where it is set, w bits and a bit that is 0: how many bits that is.
 fn flagged_span(x: u64, w: u64) -> u64
     requires { w ≤ 11 }
-    ensures { (result ≡ flaggedSpan w x) × (result ≤ 13) }
+    ensures { (result ≡ flagged_span w x) × (result ≤ 13) }
 {
     if x >> 63 == 0 {
         return 1;
@@ -19,7 +18,7 @@ fn flagged_span(x: u64, w: u64) -> u64
 // The same, or 64 where the last bit is not 0.
 fn flagged_length(x: u64, w: u64) -> u64
     requires { w ≤ 11 }
-    ensures { (result ≡ (if flaggedEnds w x then flaggedSpan w x else 64)) × (result ≤ 64) }
+    ensures { (result ≡ (if flagged_ends w x then flagged_span w x else 64)) × (result ≤ 64) }
 {
     if x >> 63 == 0 {
         return 1;
@@ -33,7 +32,7 @@ fn flagged_length(x: u64, w: u64) -> u64
 // The w bits.
 fn flagged_value(x: u64, w: u64) -> Optional
     requires { (1 ≤ w) × (w ≤ 11) }
-    ensures { result ≡ flaggedValue w x }
+    ensures { result ≡ flagged_value w x }
 {
     if x >> 63 == 0 {
         return Optional::Absent;
@@ -44,7 +43,7 @@ fn flagged_value(x: u64, w: u64) -> Optional
 // A flag and, where it is set, a variable field of one group or two, of w bits each: how many bits that is.
 fn variable_span(x: u64, w: u64) -> u64
     requires { w ≤ 11 }
-    ensures { (result ≡ variableSpan w x) × (result ≤ 25) }
+    ensures { (result ≡ variable_span w x) × (result ≤ 25) }
 {
     if x >> 63 == 0 {
         return 1;
@@ -58,7 +57,7 @@ fn variable_span(x: u64, w: u64) -> u64
 // The same, or 64 where there are more groups.
 fn variable_length(x: u64, w: u64) -> u64
     requires { w ≤ 11 }
-    ensures { (result ≡ (if variableEnds w x then variableSpan w x else 64)) × (result ≤ 64) }
+    ensures { (result ≡ (if variable_ends w x then variable_span w x else 64)) × (result ≤ 64) }
 {
     if x >> 63 == 0 {
         return 1;
@@ -75,7 +74,7 @@ fn variable_length(x: u64, w: u64) -> u64
 // Its value: the second group starts past the values of one.
 fn variable_value(x: u64, w: u64) -> Optional
     requires { (1 ≤ w) × (w ≤ 11) }
-    ensures { result ≡ variableValue w x }
+    ensures { result ≡ variable_value w x }
 {
     if x >> 63 == 0 {
         return Optional::Absent;
@@ -90,7 +89,7 @@ fn variable_value(x: u64, w: u64) -> Optional
 
 // The codec data's flag and, where it is set, the reserved octet: how many bits that is, or 64 where the octet is not 0.
 fn codec_length(x: u64) -> u64
-    ensures { (result ≡ (if codecEnds x then codecSpan x else 64)) × (result ≤ 64) }
+    ensures { (result ≡ (if codec_ends x then codec_span x else 64)) × (result ≤ 64) }
 {
     if x >> 63 == 0 {
         return 1;
@@ -103,7 +102,7 @@ fn codec_length(x: u64) -> u64
 
 // The settings from discard on: how many bits they take.
 fn controls_length(x: u64, offset: bool) -> u64
-    ensures { (result ≡ controlsSpan offset x) × (result ≤ 11) }
+    ensures { (result ≡ controls_span offset x) × (result ≤ 11) }
 {
     if x >> 63 == 1 {
         return 1;
@@ -119,14 +118,14 @@ fn controls_length(x: u64, offset: bool) -> u64
 
 // How many bits compact settings take; 64 where they are not compact.
 pub fn config_length(x: u64) -> u64
-    ensures { (result ≡ configLength x) × (result ≤ 64) }
+    ensures { (result ≡ config_length x) × (result ≤ 64) }
 {
     grouped_length(x) % 128
 }
 
 // The same, and 128 more where their group id has two groups; they have no other field of more than one.
 fn grouped_length(x: u64) -> u64
-    ensures { (result ≡ groupedLength x) × (result ≤ 192) }
+    ensures { (result ≡ grouped_length x) × (result ≤ 192) }
 {
     // The shortest settings, nothing but discard, which many payloads have.
     if x >> 59 == 1 {
@@ -137,7 +136,7 @@ fn grouped_length(x: u64) -> u64
 
 // The same, part by part.
 fn parts_length(x: u64) -> u64
-    ensures { (result ≡ groupedLength x) × (result ≤ 192) }
+    ensures { (result ≡ grouped_length x) × (result ≤ 192) }
 {
     let offset = flagged_length(x, 11);
     if offset == 64 {
@@ -169,7 +168,7 @@ fn parts_length(x: u64) -> u64
 // An id below the escape and compact settings, or the id 0 alone: how many bits that is, and 128 more as above. 0 where it is
 // neither.
 pub fn head_length(x: u64) -> u64
-    ensures { result ≡ groupedHead x }
+    ensures { result ≡ grouped_head x }
 {
     let id = x >> 59;
     if id == 0 {
@@ -187,7 +186,7 @@ pub fn head_length(x: u64) -> u64
 
 // A size of one group or two: how many bits it takes. 0 where it has more.
 pub fn size_length(x: u64) -> u64
-    ensures { result ≡ sizeLength x }
+    ensures { result ≡ size_length x }
 {
     if (x >> 55) % 2 == 0 {
         return 9;
@@ -199,7 +198,7 @@ pub fn size_length(x: u64) -> u64
 }
 
 pub fn size_value(x: u64) -> u64
-    ensures { result ≡ sizeValue x }
+    ensures { result ≡ size_value x }
 {
     if (x >> 55) % 2 == 0 {
         return x >> 56;
@@ -209,14 +208,14 @@ pub fn size_value(x: u64) -> u64
 
 fn present_span(there: bool, w: u64) -> u64
     requires { w ≤ 2 }
-    ensures { (result ≡ presentSpan there w) × (result ≤ 2) }
+    ensures { (result ≡ present_span there w) × (result ≤ 2) }
 {
     if there { w } else { 0 }
 }
 
 fn present_value(x: u64, there: bool, w: u64) -> Optional
     requires { (1 ≤ w) × (w ≤ 64) }
-    ensures { result ≡ presentValue there w x }
+    ensures { result ≡ present_value there w x }
 {
     if !there {
         return Optional::Absent;
@@ -226,7 +225,7 @@ fn present_value(x: u64, there: bool, w: u64) -> Optional
 
 // Compact settings.
 pub fn compact_config(x: u64) -> EmdfPayloadConfig
-    ensures { result ≡ compactConfig x }
+    ensures { result ≡ compact_config x }
 {
     let x1 = x << flagged_span(x, 11);
     let x2 = x1 << flagged_span(x1, 11);
@@ -246,7 +245,7 @@ fn compact_controls(
     group: Optional,
     codec: u64,
 ) -> EmdfPayloadConfig
-    ensures { result ≡ compactControls offset duration group codec x }
+    ensures { result ≡ compact_controls offset duration group codec x }
 {
     let discard = x >> 63;
     let x1 = x << 1;

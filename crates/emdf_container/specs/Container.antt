@@ -1,14 +1,13 @@
 -- The answers of a container and its parts, by what the definitions of emdf_format find: e is the end of the cursor that was handed in.
 -- Assumes nothing.
-use Rattle.std.specs.Prelude.{List, [], ◌∷◌, ◌≡◌, ℕ, ◌+◌, ◌-◌, ◌*◌, ◌≤◌, ◌<◌, length, take, drop, leb}
-use Rattle.openjoc_bitio.specs.Choice.{if◌then◌else◌}
-use Rattle.openjoc_bitio.specs.Bits.{bitsValue}
-use Rattle.openjoc_bitio.specs.Cursor.{bitsRemaining}
+use Rattle.std.specs.Prelude.{List, [], ◌∷◌, ◌≡◌, ℕ, ◌+◌, ◌-◌, ◌*◌, ◌≤◌, ◌<◌, length, take, drop, leb, if◌then◌else◌}
+use Rattle.openjoc_bitio.specs.Bits.{bits_value}
+use Rattle.openjoc_bitio.specs.Cursor.{bits_remaining}
 use Rattle.openjoc_bitio.specs.declared.BitCursor.{BitCursor}
-use Rattle.emdf_format.specs.Reader.{Read, got, refused, Reader, ◌>>=◌, give, cursorAt, remaining}
-use Rattle.emdf_format.specs.Reading.{Found, payloads, padding, Container, containerEnd, payloadsOf, contentsOf}
-use Rattle.emdf_format.specs.Syntax.{extendedGroups}
-use Rattle.emdf_format.specs.Groups.{larger, payloadsGroups, largestGroups}
+use Rattle.emdf_format.specs.Reader.{Read, got, refused, Reader, ◌>>=◌, give, cursor_at, remaining}
+use Rattle.emdf_format.specs.Reading.{Found, payloads, padding, Container, container_end, payloads_of, contents_of}
+use Rattle.emdf_format.specs.Syntax.{extended_groups}
+use Rattle.emdf_format.specs.Groups.{larger, payloads_groups, largest_groups_of}
 use Rattle.emdf_format.specs.declared.EmdfError.{EmdfError}
 use Rattle.emdf_container.specs.declared.ProtectionBytes.{ProtectionBytes}
 use Rattle.emdf_container.specs.declared.BytesAnswer.{BytesAnswer}
@@ -20,29 +19,29 @@ use Rattle.emdf_container.specs.declared.ContainerAnswer.TheVariants as Containe
 -- ---- protection and padding
 
 -- the number that bytes make, the first the most significant
-unfoldable pub bytesNumber : ℕ → List ℕ → ℕ
-bytesNumber v [] = v
-bytesNumber v (b ∷ bs) = bytesNumber (v * 256 + b) bs
+unfoldable pub bytes_number : ℕ → List ℕ → ℕ
+bytes_number v [] = v
+bytes_number v (b ∷ bs) = bytes_number (v * 256 + b) bs
 
 -- at most 16 bytes: the last 8, and those before them
-unfoldable pub protectionBytes : List ℕ → ProtectionBytes
-protectionBytes bs = record {
+unfoldable pub protection_bytes : List ℕ → ProtectionBytes
+protection_bytes bs = record {
   length = record { 0 = length bs };
-  high = bytesNumber 0 (take (length bs - 8) bs);
-  low = bytesNumber 0 (drop (length bs - 8) bs);
+  high = bytes_number 0 (take (length bs - 8) bs);
+  low = bytes_number 0 (drop (length bs - 8) bs);
 }
 
-unfoldable pub bytesAnswer : ℕ → Read (List ℕ) → BytesAnswer
-bytesAnswer e (got bs q) = BytesAnswer.Bytes (protectionBytes bs) (cursorAt e q)
-bytesAnswer e (refused why q) = BytesAnswer.Refused why
+unfoldable pub bytes_answer : ℕ → Read (List ℕ) → BytesAnswer
+bytes_answer e (got bs q) = BytesAnswer.Bytes (protection_bytes bs) (cursor_at e q)
+bytes_answer e (refused why q) = BytesAnswer.Refused why
 
 -- the value of n bits, where they are there
-unfoldable pub valueThere : List ℕ → BitCursor → ℕ → ℕ
-valueThere s c n = if leb n (bitsRemaining s c) then bitsValue s c.position n else 0
+unfoldable pub value_there : List ℕ → BitCursor → ℕ → ℕ
+value_there s c n = if leb n (bits_remaining s c) then bits_value s c.position n else 0
 
 -- padding as a field, whose value is 0
-unfoldable pub paddingValue : Reader ℕ
-paddingValue = do
+unfoldable pub padding_value : Reader ℕ
+padding_value = do
   _ ← padding
   give 0
 
@@ -53,33 +52,33 @@ pub record IsEnd (s : List ℕ) (p left first second : ℕ) : Type 0 where
   pub some : 0 < first
   pub room : 4 + (first + second) * 8 ≤ left
   pub few : left ≤ 4 + (first + second) * 8 + 7
-  pub zeros : bitsValue s (p + (4 + (first + second) * 8)) (left - (4 + (first + second) * 8)) ≡ 0
+  pub zeros : bits_value s (p + (4 + (first + second) * 8)) (left - (4 + (first + second) * 8)) ≡ 0
 
-unfoldable pub containerOf : Container → EmdfContainer
-containerOf c = record {
+unfoldable pub container_of : Container → EmdfContainer
+container_of c = record {
   key_id = c.key-id;
   payloads = length c.found;
-  protection = record { primary = protectionBytes c.primary; secondary = protectionBytes c.secondary };
-  largest_groups = largestGroups (contentsOf c);
+  protection = record { primary = protection_bytes c.primary; secondary = protection_bytes c.secondary };
+  largest_groups = largest_groups_of (contents_of c);
 }
 
 -- the largest number of groups of a key id and payloads
-abbrev pub groupsWith : ℕ → List Found → ℕ
-groupsWith key xs = larger (extendedGroups 3 key) (payloadsGroups (payloadsOf xs))
+abbrev pub groups_with : ℕ → List Found → ℕ
+groups_with key xs = larger (extended_groups 3 key) (payloads_groups (payloads_of xs))
 
 -- what follows the key id: the end of emdf_format's container
-unfoldable pub containerAfter : ℕ → Reader Container
-containerAfter key = do
+unfoldable pub container_after : ℕ → Reader Container
+container_after key = do
   n ← remaining
   xs ← payloads n
-  containerEnd key xs
+  container_end key xs
 
-unfoldable pub containerAnswer : ℕ → Read Container → ContainerAnswer
-containerAnswer e (got c q) = ContainerAnswer.Container (containerOf c)
-containerAnswer e (refused why q) = ContainerAnswer.Refused why
+unfoldable pub container_answer : ℕ → Read Container → ContainerAnswer
+container_answer e (got c q) = ContainerAnswer.Container (container_of c)
+container_answer e (refused why q) = ContainerAnswer.Refused why
 
 -- ---- r is why an answer is refused; of an accepted one nothing is said
 
-abbrev pub bytesError : BytesAnswer → EmdfError → EmdfError
-bytesError (BytesAnswer.Bytes b c) r = r
-bytesError (BytesAnswer.Refused why) r = why
+abbrev pub bytes_error : BytesAnswer → EmdfError → EmdfError
+bytes_error (BytesAnswer.Bytes b c) r = r
+bytes_error (BytesAnswer.Refused why) r = why

@@ -1,13 +1,13 @@
 // A container: its protection, its end, and all of it after the declared length. Each function answers what its definition in
 // emdf_format says.
 ghost use Rattle.std.specs.Prelude.{◌≡◌, true, ◌+◌, ◌-◌, ◌*◌, ◌^◌, ◌≤◌, ◌<◌, List, length};
-ghost use Rattle.emdf_format.specs.Contents.{protectionLength};
+ghost use Rattle.emdf_format.specs.Contents.{protection_length};
 ghost use Rattle.emdf_format.specs.Reader.{octets};
-ghost use Rattle.emdf_format.specs.Reading.{Found, containerEnd, container};
-ghost use Rattle.emdf_format.specs.Calls.{octetsAt};
-ghost use Rattle.openjoc_bitio.specs.Bits.{bitsValue};
-ghost use Rattle.emdf_fields.specs.Fields.{fieldAnswer};
-ghost use Rattle.emdf_container.specs.Container.{protectionBytes, bytesAnswer, valueThere, paddingValue, IsEnd, groupsWith, containerAfter, containerAnswer, bytesError};
+ghost use Rattle.emdf_format.specs.Reading.{Found, container_end, container};
+ghost use Rattle.emdf_format.specs.Calls.{octets_at};
+ghost use Rattle.openjoc_bitio.specs.Bits.{bits_value};
+ghost use Rattle.emdf_fields.specs.Fields.{field_answer};
+ghost use Rattle.emdf_container.specs.Container.{protection_bytes, bytes_answer, value_there, padding_value, IsEnd, groups_with, container_after, container_answer, bytes_error};
 
 use emdf_fields::{CountAnswer, FieldAnswer};
 use emdf_format::EmdfError;
@@ -54,7 +54,7 @@ enum BytesAnswer {
 
 // A protection's length, by its code.
 fn protection_length(code: u64) -> usize
-    ensures { result ≡ protectionLength code }
+    ensures { result ≡ protection_length code }
 {
     match code {
         0 => 0,
@@ -67,7 +67,7 @@ fn protection_length(code: u64) -> usize
 // n octets of a protection, at most 16.
 fn protection_bytes(s: &[u8], c: BitCursor, n: usize) -> BytesAnswer
     requires { n ≤ 16 }
-    ensures { result ≡ bytesAnswer c.end (octets n s.now c.end c.position) }
+    ensures { result ≡ bytes_answer c.end (octets n s.now c.end c.position) }
 {
     let a = emdf_fields::skip_octets(s, c, n as u64);
     let CountAnswer::Counted(_, past) = a else {
@@ -95,7 +95,7 @@ fn above_eight(n: usize) -> usize
 // The value of n bits that are there; 0 where they are not.
 fn value_at(s: &[u8], c: BitCursor, n: usize) -> u64
     requires { n ≤ 64 }
-    ensures { result ≡ valueThere s.now c n }
+    ensures { result ≡ value_there s.now c n }
 {
     let a = c.read_bits(s, n as u8);
     let BitsAnswer::Value(value, _) = a else {
@@ -106,7 +106,7 @@ fn value_at(s: &[u8], c: BitCursor, n: usize) -> u64
 
 // To the end of the declared length: at most 7 bits, all zero.
 fn check_padding(s: &[u8], c: BitCursor) -> FieldAnswer
-    ensures { result ≡ fieldAnswer c.end (paddingValue s.now c.end c.position) }
+    ensures { result ≡ field_answer c.end (padding_value s.now c.end c.position) }
 {
     let remaining = c.bits_remaining(s);
     if 7 < remaining {
@@ -121,7 +121,7 @@ fn check_padding(s: &[u8], c: BitCursor) -> FieldAnswer
 }
 
 fn bytes_error(a: BytesAnswer) -> EmdfError
-    ensures { result ≡ bytesError a result }
+    ensures { result ≡ bytes_error a result }
 {
     match a {
         BytesAnswer::Bytes(_, _) => EmdfError::ValueOverflow,
@@ -131,7 +131,7 @@ fn bytes_error(a: BytesAnswer) -> EmdfError
 
 // What follows the payloads: protection, and padding to the end. An end that is accepted is read through words.
 fn container_end(s: &[u8], c: BitCursor, key: u64, count: usize, most: usize) -> ContainerAnswer
-    ensures { (xs : List Found) → length xs ≡ count → groupsWith key xs ≡ most → result ≡ containerAnswer c.end (containerEnd key xs s.now c.end c.position) }
+    ensures { (xs : List Found) → length xs ≡ count → groups_with key xs ≡ most → result ≡ container_answer c.end (container_end key xs s.now c.end c.position) }
 {
     let p = c.position;
     let end = c.end;
@@ -175,7 +175,7 @@ fn is_end(s: &[u8], p: usize, left: usize, first: usize, second: usize) -> bool
 // The n octets of a protection, from bit p on.
 fn protection_at(s: &[u8], p: usize, n: usize) -> ProtectionBytes
     requires { ((n ≡ 16 → ⊥) → n ≤ 7) × (p + n * 8 < 2 ^ 64) }
-    ensures { result ≡ protectionBytes (octetsAt s.now p n) }
+    ensures { result ≡ protection_bytes (octets_at s.now p n) }
 {
     let length = ByteCount(n);
     if n == 16 {
@@ -202,7 +202,7 @@ fn protection_at(s: &[u8], p: usize, n: usize) -> ProtectionBytes
 // The 64 bits from bit p on.
 fn word_at(s: &[u8], p: usize) -> u64
     requires { p + 32 < 2 ^ 64 }
-    ensures { result ≡ bitsValue s.now p 64 }
+    ensures { result ≡ bits_value s.now p 64 }
 {
     (openjoc_bitio::window_at(s, p) >> 32) * 0x1_0000_0000
         + (openjoc_bitio::window_at(s, p + 32) >> 32)
@@ -210,7 +210,7 @@ fn word_at(s: &[u8], p: usize) -> u64
 
 // The same field by field, which tells why an end is refused.
 fn end_by_fields(s: &[u8], c: BitCursor, key: u64, count: usize, most: usize) -> ContainerAnswer
-    ensures { (xs : List Found) → length xs ≡ count → groupsWith key xs ≡ most → result ≡ containerAnswer c.end (containerEnd key xs s.now c.end c.position) }
+    ensures { (xs : List Found) → length xs ≡ count → groups_with key xs ≡ most → result ≡ container_answer c.end (container_end key xs s.now c.end c.position) }
 {
     let a1 = emdf_fields::read_bits(s, c, 2);
     let FieldAnswer::Value(primary_code, c1) = a1 else {
@@ -246,7 +246,7 @@ fn end_by_fields(s: &[u8], c: BitCursor, key: u64, count: usize, most: usize) ->
 
 // A container, to the cursor's end.
 pub fn parse_container(s: &[u8], c: BitCursor) -> ContainerAnswer
-    ensures { result ≡ containerAnswer c.end (container s.now c.end c.position) }
+    ensures { result ≡ container_answer c.end (container s.now c.end c.position) }
 {
     let p = c.position;
     let end = c.end;
@@ -269,7 +269,7 @@ pub fn parse_container(s: &[u8], c: BitCursor) -> ContainerAnswer
 
 // The same field by field: another version, a key id with the escape, or missing bits.
 fn container_by_fields(s: &[u8], c: BitCursor) -> ContainerAnswer
-    ensures { result ≡ containerAnswer c.end (container s.now c.end c.position) }
+    ensures { result ≡ container_answer c.end (container s.now c.end c.position) }
 {
     let a1 = emdf_fields::extended_value(s, c, 3, 2);
     let FieldAnswer::Value(version, c1) = a1 else {
@@ -287,7 +287,7 @@ fn container_by_fields(s: &[u8], c: BitCursor) -> ContainerAnswer
 
 // A container after its key id: its payloads, and what follows them.
 fn parse_payloads(s: &[u8], c: BitCursor, key: u64) -> ContainerAnswer
-    ensures { result ≡ containerAnswer c.end (containerAfter key s.now c.end c.position) }
+    ensures { result ≡ container_answer c.end (container_after key s.now c.end c.position) }
 {
     let a = emdf_payload_list::count_payloads(s, c);
     let ListAnswer::List(count, most, c1) = a else {

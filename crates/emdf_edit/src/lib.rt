@@ -1,7 +1,7 @@
 // The calls that write a carrier into a caller's destination.
 ghost use Rattle.std.specs.Prelude.{◌≡◌, ◌+◌, length};
-ghost use Rattle.emdf_format.specs.Edits.{bodyEdit, settingsEdit, dropEdit, insertEdit, keyEdit, protectionEdit, Called};
-ghost use Rattle.emdf_request.specs.Requests.{editOf, newBits};
+ghost use Rattle.emdf_format.specs.Edits.{body_edit, settings_edit, drop_edit, insert_edit, key_edit, protection_edit, Called};
+ghost use Rattle.emdf_request.specs.Requests.{edit_of, new_bits};
 ghost use Rattle.emdf_plan.specs.Plan.{spliced};
 ghost use Rattle.emdf_field_writer.specs.Fields.{Room, Put};
 ghost use Rattle.emdf_edit.specs.Cuts.{Within};
@@ -19,8 +19,8 @@ fn put_new(
     octets: &[u8],
     secondary: &[u8],
 ) -> BitOffset
-    requires { Room out.old at.0 (newBits request octets.now secondary.now) }
-    ensures { Put out.old at.0 (newBits request octets.now secondary.now) out.new result.0 }
+    requires { Room out.old at.0 (new_bits request octets.now secondary.now) }
+    ensures { Put out.old at.0 (new_bits request octets.now secondary.now) out.new result.0 }
 {
     match request {
         Request::Body(_) => emdf_field_writer::put_body(out, at, octets),
@@ -44,8 +44,8 @@ fn put_splice(
     octets: &[u8],
     secondary: &[u8],
 ) -> BitOffset
-    requires { Within source.now cut (newBits request octets.now secondary.now) × (length out.old ≡ 4 + cut.size.0) }
-    ensures { Put out.old 0 (spliced source.now cut (newBits request octets.now secondary.now)) out.new result.0 }
+    requires { Within source.now cut (new_bits request octets.now secondary.now) × (length out.old ≡ 4 + cut.size.0) }
+    ensures { Put out.old 0 (spliced source.now cut (new_bits request octets.now secondary.now)) out.new result.0 }
 {
     let from = cut.from;
     let to = cut.to;
@@ -66,7 +66,7 @@ pub fn apply(
     secondary: &[u8],
     destination: &mut [u8],
 ) -> EditAnswer
-    ensures { Called (editOf request octets.now secondary.now) source.now destination.old result destination.new }
+    ensures { Called (edit_of request octets.now secondary.now) source.now destination.old result destination.new }
 {
     let plan = emdf_plan::plan_edit(source, request, octets, secondary, destination.len());
     match plan {
@@ -89,7 +89,7 @@ pub fn apply(
 
 // Another body for the payload at place.
 pub fn replace_body(source: &[u8], place: usize, body: &[u8], destination: &mut [u8]) -> EditAnswer
-    ensures { Called (bodyEdit place body.now) source.now destination.old result destination.new }
+    ensures { Called (body_edit place body.now) source.now destination.old result destination.new }
 {
     apply(source, Request::Body(place), body, &body[..0], destination)
 }
@@ -101,7 +101,7 @@ pub fn replace_settings(
     config: EmdfPayloadConfig,
     destination: &mut [u8],
 ) -> EditAnswer
-    ensures { Called (settingsEdit place config) source.now destination.old result destination.new }
+    ensures { Called (settings_edit place config) source.now destination.old result destination.new }
 {
     let none = &source[..0];
     apply(
@@ -115,7 +115,7 @@ pub fn replace_settings(
 
 // The carrier without the payload at place.
 pub fn drop_payload(source: &[u8], place: usize, destination: &mut [u8]) -> EditAnswer
-    ensures { Called (dropEdit place) source.now destination.old result destination.new }
+    ensures { Called (drop_edit place) source.now destination.old result destination.new }
 {
     let none = &source[..0];
     apply(source, Request::Drop(place), none, none, destination)
@@ -130,7 +130,7 @@ pub fn insert_payload(
     body: &[u8],
     destination: &mut [u8],
 ) -> EditAnswer
-    ensures { Called (insertEdit place id config body.now) source.now destination.old result destination.new }
+    ensures { Called (insert_edit place id config body.now) source.now destination.old result destination.new }
 {
     apply(
         source,
@@ -143,7 +143,7 @@ pub fn insert_payload(
 
 // Another key id.
 pub fn replace_key(source: &[u8], key: u64, destination: &mut [u8]) -> EditAnswer
-    ensures { Called (keyEdit key) source.now destination.old result destination.new }
+    ensures { Called (key_edit key) source.now destination.old result destination.new }
 {
     let none = &source[..0];
     apply(source, Request::Key(key), none, none, destination)
@@ -156,7 +156,7 @@ pub fn replace_protection(
     secondary: &[u8],
     destination: &mut [u8],
 ) -> EditAnswer
-    ensures { Called (protectionEdit primary.now secondary.now) source.now destination.old result destination.new }
+    ensures { Called (protection_edit primary.now secondary.now) source.now destination.old result destination.new }
 {
     apply(source, Request::Protection, primary, secondary, destination)
 }

@@ -1,18 +1,18 @@
 // The fields of a carrier, put one after another into a caller's bytes.
 ghost use Rattle.std.specs.Prelude.{◌+◌, ◌*◌, ◌^◌, ◌<◌, ◌≤◌, length};
-ghost use Rattle.openjoc_bitio.specs.Bits.{numberBits};
-ghost use Rattle.emdf_format.specs.Syntax.{◌⨟◌, variableField, extendedField, octetBits, flaggedField, presentField};
-ghost use Rattle.emdf_format.specs.Contents.{Payload, sampleOffsetBits, codecDataBits, configBits, payloadBits, protectionBits};
-ghost use Rattle.emdf_writer.specs.Writing.{bitRun};
-ghost use Rattle.emdf_field_writer.specs.Fields.{Room, Put, group, variableGroups, timingBits, controlsBits, syncBits, headerBits};
+ghost use Rattle.openjoc_bitio.specs.Bits.{number_bits};
+ghost use Rattle.emdf_format.specs.Syntax.{◌⨟◌, variable_field, extended_field, octet_bits, flagged_field, present_field};
+ghost use Rattle.emdf_format.specs.Contents.{Payload, sample_offset_bits, codec_data_bits, config_bits, payload_bits, protection_bits};
+ghost use Rattle.emdf_writer.specs.Writing.{bit_run};
+ghost use Rattle.emdf_field_writer.specs.Fields.{Room, Put, group, variable_groups, timing_bits, controls_bits, sync_bits, header_bits};
 
 use emdf_format::{EmdfPayloadConfig, Optional};
 use openjoc_bitio::{BitOffset, ByteCount};
 
 // The width low bits of v; the position past them, as with the others.
 pub fn put_field(out: &mut [u8], at: BitOffset, width: usize, v: u64) -> BitOffset
-    requires { (width ≤ 64) × Room out.old at.0 (numberBits width v) }
-    ensures { Put out.old at.0 (numberBits width v) out.new result.0 }
+    requires { (width ≤ 64) × Room out.old at.0 (number_bits width v) }
+    ensures { Put out.old at.0 (number_bits width v) out.new result.0 }
 {
     emdf_writer::put_number(out, at.0, width, v);
     BitOffset(at.0 + width)
@@ -20,8 +20,8 @@ pub fn put_field(out: &mut [u8], at: BitOffset, width: usize, v: u64) -> BitOffs
 
 // So many zero bits.
 pub fn put_zeros(out: &mut [u8], at: BitOffset, n: usize) -> BitOffset
-    requires { Room out.old at.0 (numberBits n 0) }
-    ensures { Put out.old at.0 (numberBits n 0) out.new result.0 }
+    requires { Room out.old at.0 (number_bits n 0) }
+    ensures { Put out.old at.0 (number_bits n 0) out.new result.0 }
 {
     let mut next = at;
     let mut left = n;
@@ -43,8 +43,8 @@ fn put_group(out: &mut [u8], at: BitOffset, width: usize, v: u64, more: u64) -> 
 
 // The groups of v, the last with this more bit: those of the shorter value come first.
 fn put_variable(out: &mut [u8], at: BitOffset, width: usize, v: u64, more: u64) -> BitOffset
-    requires { (0 < width) × (width < 64) × (more < 2) × Room out.old at.0 (variableGroups width v more) }
-    ensures { Put out.old at.0 (variableGroups width v more) out.new result.0 }
+    requires { (0 < width) × (width < 64) × (more < 2) × Room out.old at.0 (variable_groups width v more) }
+    ensures { Put out.old at.0 (variable_groups width v more) out.new result.0 }
 {
     let above = v >> width;
     if above == 0 {
@@ -56,8 +56,8 @@ fn put_variable(out: &mut [u8], at: BitOffset, width: usize, v: u64, more: u64) 
 
 // A field with an escape.
 pub fn put_extended(out: &mut [u8], at: BitOffset, width: usize, v: u64) -> BitOffset
-    requires { (0 < width) × (width < 64) × Room out.old at.0 (extendedField width v) }
-    ensures { Put out.old at.0 (extendedField width v) out.new result.0 }
+    requires { (0 < width) × (width < 64) × Room out.old at.0 (extended_field width v) }
+    ensures { Put out.old at.0 (extended_field width v) out.new result.0 }
 {
     let escape = openjoc_bitio::pow2(width) - 1;
     if v < escape {
@@ -69,8 +69,8 @@ pub fn put_extended(out: &mut [u8], at: BitOffset, width: usize, v: u64) -> BitO
 
 // All octets of s.
 fn put_octets(out: &mut [u8], at: BitOffset, s: &[u8]) -> BitOffset
-    requires { Room out.old at.0 (octetBits s.now) }
-    ensures { Put out.old at.0 (octetBits s.now) out.new result.0 }
+    requires { Room out.old at.0 (octet_bits s.now) }
+    ensures { Put out.old at.0 (octet_bits s.now) out.new result.0 }
 {
     let n = s.len() * 8;
     emdf_writer::copy_bits(out, at.0, s, 0, n);
@@ -79,8 +79,8 @@ fn put_octets(out: &mut [u8], at: BitOffset, s: &[u8]) -> BitOffset
 
 // The sample offset: a flag and, where it is there, 11 bits and a reserved one.
 fn put_sample_offset(out: &mut [u8], at: BitOffset, o: Optional) -> BitOffset
-    requires { Room out.old at.0 (flaggedField sampleOffsetBits o) }
-    ensures { Put out.old at.0 (flaggedField sampleOffsetBits o) out.new result.0 }
+    requires { Room out.old at.0 (flagged_field sample_offset_bits o) }
+    ensures { Put out.old at.0 (flagged_field sample_offset_bits o) out.new result.0 }
 {
     match o {
         Optional::Absent => put_field(out, at, 1, 0),
@@ -94,8 +94,8 @@ fn put_sample_offset(out: &mut [u8], at: BitOffset, o: Optional) -> BitOffset
 
 // A flag and, where the setting is there, its variable field.
 fn put_flagged(out: &mut [u8], at: BitOffset, width: usize, o: Optional) -> BitOffset
-    requires { (0 < width) × (width < 64) × Room out.old at.0 (flaggedField (variableField width) o) }
-    ensures { Put out.old at.0 (flaggedField (variableField width) o) out.new result.0 }
+    requires { (0 < width) × (width < 64) × Room out.old at.0 (flagged_field (variable_field width) o) }
+    ensures { Put out.old at.0 (flagged_field (variable_field width) o) out.new result.0 }
 {
     match o {
         Optional::Absent => put_field(out, at, 1, 0),
@@ -108,8 +108,8 @@ fn put_flagged(out: &mut [u8], at: BitOffset, width: usize, o: Optional) -> BitO
 
 // The codec flag and, where it is set, the reserved octet.
 fn put_codec_data(out: &mut [u8], at: BitOffset, flag: u64) -> BitOffset
-    requires { Room out.old at.0 (codecDataBits flag) }
-    ensures { Put out.old at.0 (codecDataBits flag) out.new result.0 }
+    requires { Room out.old at.0 (codec_data_bits flag) }
+    ensures { Put out.old at.0 (codec_data_bits flag) out.new result.0 }
 {
     if flag == 0 {
         return put_field(out, at, 1, 0);
@@ -120,8 +120,8 @@ fn put_codec_data(out: &mut [u8], at: BitOffset, flag: u64) -> BitOffset
 
 // The width low bits of a setting, where it is there.
 fn put_present(out: &mut [u8], at: BitOffset, width: usize, o: Optional) -> BitOffset
-    requires { (width ≤ 64) × Room out.old at.0 (presentField (numberBits width) o) }
-    ensures { Put out.old at.0 (presentField (numberBits width) o) out.new result.0 }
+    requires { (width ≤ 64) × Room out.old at.0 (present_field (number_bits width) o) }
+    ensures { Put out.old at.0 (present_field (number_bits width) o) out.new result.0 }
 {
     match o {
         Optional::Absent => at,
@@ -131,8 +131,8 @@ fn put_present(out: &mut [u8], at: BitOffset, width: usize, o: Optional) -> BitO
 
 // The settings before the codec flag.
 fn put_timing(out: &mut [u8], at: BitOffset, t: EmdfPayloadConfig) -> BitOffset
-    requires { Room out.old at.0 (timingBits t) }
-    ensures { Put out.old at.0 (timingBits t) out.new result.0 }
+    requires { Room out.old at.0 (timing_bits t) }
+    ensures { Put out.old at.0 (timing_bits t) out.new result.0 }
 {
     let offset = t.sample_offset;
     let duration = t.duration;
@@ -144,8 +144,8 @@ fn put_timing(out: &mut [u8], at: BitOffset, t: EmdfPayloadConfig) -> BitOffset
 
 // The settings after the codec flag.
 fn put_controls(out: &mut [u8], at: BitOffset, t: EmdfPayloadConfig) -> BitOffset
-    requires { Room out.old at.0 (controlsBits t) }
-    ensures { Put out.old at.0 (controlsBits t) out.new result.0 }
+    requires { Room out.old at.0 (controls_bits t) }
+    ensures { Put out.old at.0 (controls_bits t) out.new result.0 }
 {
     let aligned = t.payload_frame_aligned;
     let create = t.create_duplicate;
@@ -162,8 +162,8 @@ fn put_controls(out: &mut [u8], at: BitOffset, t: EmdfPayloadConfig) -> BitOffse
 
 // The ten settings.
 pub fn put_config(out: &mut [u8], at: BitOffset, t: EmdfPayloadConfig) -> BitOffset
-    requires { Room out.old at.0 (configBits t) }
-    ensures { Put out.old at.0 (configBits t) out.new result.0 }
+    requires { Room out.old at.0 (config_bits t) }
+    ensures { Put out.old at.0 (config_bits t) out.new result.0 }
 {
     let timing = put_timing(out, at, t);
     let codec = put_codec_data(out, timing, t.codec_data_present);
@@ -172,8 +172,8 @@ pub fn put_config(out: &mut [u8], at: BitOffset, t: EmdfPayloadConfig) -> BitOff
 
 // The size of a body, and its octets.
 pub fn put_body(out: &mut [u8], at: BitOffset, body: &[u8]) -> BitOffset
-    requires { Room out.old at.0 (variableField 8 (length body.now) ⨟ octetBits body.now) }
-    ensures { Put out.old at.0 (variableField 8 (length body.now) ⨟ octetBits body.now) out.new result.0 }
+    requires { Room out.old at.0 (variable_field 8 (length body.now) ⨟ octet_bits body.now) }
+    ensures { Put out.old at.0 (variable_field 8 (length body.now) ⨟ octet_bits body.now) out.new result.0 }
 {
     let size = put_variable(out, at, 8, body.len() as u64, 0);
     put_octets(out, size, body)
@@ -187,8 +187,8 @@ pub fn put_payload(
     config: EmdfPayloadConfig,
     body: &[u8],
 ) -> BitOffset
-    requires { Room out.old at.0 (payloadBits (record { id = id; config = config; body = body.now })) }
-    ensures { Put out.old at.0 (payloadBits (record { id = id; config = config; body = body.now })) out.new result.0 }
+    requires { Room out.old at.0 (payload_bits (record { id = id; config = config; body = body.now })) }
+    ensures { Put out.old at.0 (payload_bits (record { id = id; config = config; body = body.now })) out.new result.0 }
 {
     let settings = put_extended(out, at, 5, id);
     let size = put_config(out, settings, config);
@@ -197,8 +197,8 @@ pub fn put_payload(
 
 // The codes of two protections and their octets.
 pub fn put_protection(out: &mut [u8], at: BitOffset, primary: &[u8], secondary: &[u8]) -> BitOffset
-    requires { Room out.old at.0 (protectionBits primary.now secondary.now) }
-    ensures { Put out.old at.0 (protectionBits primary.now secondary.now) out.new result.0 }
+    requires { Room out.old at.0 (protection_bits primary.now secondary.now) }
+    ensures { Put out.old at.0 (protection_bits primary.now secondary.now) out.new result.0 }
 {
     let first = put_field(out, at, 2, emdf_measure::protection_code(primary.len()));
     let codes = put_field(
@@ -213,8 +213,8 @@ pub fn put_protection(out: &mut [u8], at: BitOffset, primary: &[u8], secondary: 
 
 // n bits of s, from bit from on.
 pub fn put_run(out: &mut [u8], at: BitOffset, s: &[u8], from: BitOffset, n: usize) -> BitOffset
-    requires { Room out.old at.0 (bitRun s.now from.0 n) × (from.0 + n ≤ length s.now * 8) × (length s.now < 2 ^ 61) }
-    ensures { Put out.old at.0 (bitRun s.now from.0 n) out.new result.0 }
+    requires { Room out.old at.0 (bit_run s.now from.0 n) × (from.0 + n ≤ length s.now * 8) × (length s.now < 2 ^ 61) }
+    ensures { Put out.old at.0 (bit_run s.now from.0 n) out.new result.0 }
 {
     emdf_writer::copy_bits(out, at.0, s, from.0, n);
     BitOffset(at.0 + n)
@@ -222,8 +222,8 @@ pub fn put_run(out: &mut [u8], at: BitOffset, s: &[u8], from: BitOffset, n: usiz
 
 // The sync word, and the length that the container declares.
 pub fn put_sync(out: &mut [u8], size: ByteCount) -> BitOffset
-    requires { Room out.old 0 (syncBits size.0) }
-    ensures { Put out.old 0 (syncBits size.0) out.new result.0 }
+    requires { Room out.old 0 (sync_bits size.0) }
+    ensures { Put out.old 0 (sync_bits size.0) out.new result.0 }
 {
     emdf_writer::put_u16(out, 0, emdf_format::SYNCWORD as u64);
     emdf_writer::put_u16(out, 2, size.0 as u64);
@@ -232,8 +232,8 @@ pub fn put_sync(out: &mut [u8], size: ByteCount) -> BitOffset
 
 // What stands before the payloads.
 pub fn put_header(out: &mut [u8], size: ByteCount, key: u64) -> BitOffset
-    requires { Room out.old 0 (headerBits size.0 key) }
-    ensures { Put out.old 0 (headerBits size.0 key) out.new result.0 }
+    requires { Room out.old 0 (header_bits size.0 key) }
+    ensures { Put out.old 0 (header_bits size.0 key) out.new result.0 }
 {
     let sync = put_sync(out, size);
     let version = put_field(out, sync, 2, 0);

@@ -10,12 +10,12 @@ use lib.ListN.{length}
 use lib.Dec.{T}
 use Rattle.openjoc_bitio.specs.declared.BitCursor.{BitCursor}
 use Rattle.emdf_format.specs.Syntax.{groups}
-use Rattle.emdf_format.specs.Reader.{Read, got, refused, Reader, ◌>>=◌, give, ask, choose, cursorAt, position, variableBits}
+use Rattle.emdf_format.specs.Reader.{Read, got, refused, Reader, ◌>>=◌, give, ask, choose, cursor_at, position, variable_bits}
 use Rattle.emdf_format.specs.declared.EmdfError.{EmdfError}
 use Rattle.emdf_format.proofs.Payloads.{at-go}
 use Rattle.emdf_format.proofs.Standing.{bind-go, bind-no, ask-go, ask-refuses, choose-this, choose-that, bind_assoc, choose-bind, give-bind}
 use Rattle.emdf_format.proofs.Groups.{field-groups}
-use Rattle.emdf_fields.specs.Fields.{fieldAnswer, variableAnswer, countAnswer, fieldError, countError}
+use Rattle.emdf_fields.specs.Fields.{field_answer, variable_answer, count_answer, field_error, count_error}
 use Rattle.emdf_fields.specs.declared.FieldAnswer.{FieldAnswer}
 use Rattle.emdf_fields.specs.declared.FieldAnswer.TheVariants.{Value, Refused}
 use Rattle.emdf_fields.specs.declared.VariableAnswer.TheVariants as VariableAnswer
@@ -33,49 +33,49 @@ pub record Ended {A : Type 0} (x : Read A) (e : ℕ) (why : EmdfError) (c : BitC
   pub is : x ≡ refused why c.position
   pub end : c.end ≡ e
 
-pub field_found : {e : ℕ} (x : Read ℕ) {v : ℕ} {c : BitCursor} → fieldAnswer e x ≡ Value v c → Found x e v c
-unfolding fieldAnswer
+pub field_found : {e : ℕ} (x : Read ℕ) {v : ℕ} {c : BitCursor} → field_answer e x ≡ Value v c → Found x e v c
+unfolding field_answer
 field_found {e} (got w q) {v} {c} h =
     let a : w ≡ v = cc in
-    let b : cursorAt e q ≡ c = cc in
+    let b : cursor_at e q ≡ c = cc in
     record { is = rw (a, ← b); end = rw (← b) }
 field_found (refused why q) h = absurd (let z : ◌≡◌ {A = ℕ} 0 1 = cc in omega arith)
 
-pub field-ended : {e : ℕ} (x : Read ℕ) {why : EmdfError} {c : BitCursor} → fieldAnswer e x ≡ Refused why c → Ended x e why c
-unfolding fieldAnswer
+pub field-ended : {e : ℕ} (x : Read ℕ) {why : EmdfError} {c : BitCursor} → field_answer e x ≡ Refused why c → Ended x e why c
+unfolding field_answer
 field-ended (got w q) h = absurd (let z : ◌≡◌ {A = ℕ} 0 1 = cc in omega arith)
 field-ended {e} (refused why' q) {why} {c} h =
     let a : why' ≡ why = cc in
-    let b : cursorAt e q ≡ c = cc in
+    let b : cursor_at e q ≡ c = cc in
     record { is = rw (a, ← b); end = rw (← b) }
 
 -- a variable field that is found takes so many bits, and one that is refused is refused
-pub variable-found : (w lim : ℕ) (s : List ℕ) (c : BitCursor) {v : ℕ} {next : BitCursor} → fieldAnswer c.end (variableBits w lim s c.end c.position) ≡ Value v next
-    → (next.position ≡ c.position + (w + 1) * groups w v) × (VariableAnswer.Value v (groups w v) next ≡ variableAnswer w c.end (variableBits w lim s c.end c.position))
-unfolding variableAnswer
+pub variable-found : (w lim : ℕ) (s : List ℕ) (c : BitCursor) {v : ℕ} {next : BitCursor} → field_answer c.end (variable_bits w lim s c.end c.position) ≡ Value v next
+    → (next.position ≡ c.position + (w + 1) * groups w v) × (VariableAnswer.Value v (groups w v) next ≡ variable_answer w c.end (variable_bits w lim s c.end c.position))
+unfolding variable_answer
 variable-found w lim s c {v} {next} h =
-    let d = field_found (variableBits w lim s c.end c.position) h in
+    let d = field_found (variable_bits w lim s c.end c.position) h in
     (field-groups w lim s c.end c.position d.is, rw (d.is, ← d.end))
 
-pub variable-ended : (w lim : ℕ) (s : List ℕ) (c : BitCursor) {why : EmdfError} {next : BitCursor} → fieldAnswer c.end (variableBits w lim s c.end c.position) ≡ Refused why next
-    → VariableAnswer.Refused why next ≡ variableAnswer w c.end (variableBits w lim s c.end c.position)
-unfolding variableAnswer
-variable-ended w lim s c h = let d = field-ended (variableBits w lim s c.end c.position) h in rw (d.is, ← d.end)
+pub variable-ended : (w lim : ℕ) (s : List ℕ) (c : BitCursor) {why : EmdfError} {next : BitCursor} → field_answer c.end (variable_bits w lim s c.end c.position) ≡ Refused why next
+    → VariableAnswer.Refused why next ≡ variable_answer w c.end (variable_bits w lim s c.end c.position)
+unfolding variable_answer
+variable-ended w lim s c h = let d = field-ended (variable_bits w lim s c.end c.position) h in rw (d.is, ← d.end)
 
 -- so many groups of k bits are so many
 pub groups-over : (p q k g : ℕ) → 0 < k → q ≡ p + k * g → (q - p) / k ≡ g
 groups-over p q k g h e = let z : q - p ≡ k * g = omega (arith, e) in rw z (mul-div_cancel_left g h)
 
-pub count-found : {A : Type 0} (e : ℕ) (x : Read (List A)) {n : ℕ} {c : BitCursor} → countAnswer e x ≡ CountAnswer.Counted n c → (xs : List A) × (length xs ≡ n) × Found x e xs c
-unfolding countAnswer
+pub count-found : {A : Type 0} (e : ℕ) (x : Read (List A)) {n : ℕ} {c : BitCursor} → count_answer e x ≡ CountAnswer.Counted n c → (xs : List A) × (length xs ≡ n) × Found x e xs c
+unfolding count_answer
 count-found e (got xs q) {n} {c} h =
     let a : length xs ≡ n = cc in
-    let b : cursorAt e q ≡ c = cc in
+    let b : cursor_at e q ≡ c = cc in
     (xs, a, record { is = rw (← b); end = rw (← b) })
 count-found e (refused why q) h = absurd (let z : ◌≡◌ {A = ℕ} 0 1 = cc in omega arith)
 
-pub count-ended : {A : Type 0} (e : ℕ) (x : Read (List A)) {why : EmdfError} → countAnswer e x ≡ CountAnswer.Refused why → (q : ℕ) × (x ≡ refused why q)
-unfolding countAnswer
+pub count-ended : {A : Type 0} (e : ℕ) (x : Read (List A)) {why : EmdfError} → count_answer e x ≡ CountAnswer.Refused why → (q : ℕ) × (x ≡ refused why q)
+unfolding count_answer
 count-ended e (got xs q) h = absurd (let z : ◌≡◌ {A = ℕ} 0 1 = cc in omega arith)
 count-ended e (refused why' q) {why} h = let a : why' ≡ why = cc in (q, rw a)
 
@@ -131,23 +131,23 @@ module _ {B Z : Type 0} {r : Z} (g : ℕ → Read B → Z) where
 
 -- the same answer is returned
 pub field-ends : (m : Reader ℕ) (k : ℕ → Reader ℕ) (s : List ℕ) (e p : ℕ) {a : FieldAnswer} {why : EmdfError} {c : BitCursor}
-    → a ≡ fieldAnswer e (m s e p) → a ≡ Refused why c → a ≡ fieldAnswer e ((m >>= k) s e p)
-unfolding fieldAnswer
+    → a ≡ field_answer e (m s e p) → a ≡ Refused why c → a ≡ field_answer e ((m >>= k) s e p)
+unfolding field_answer
 field-ends m k s e p {a} {why} {c} h t =
     let d = field-ended (m s e p) (sym h ∙ t) in
-    ends fieldAnswer m k s e p d.is (t ∙ rw (← d.end))
+    ends field_answer m k s e p d.is (t ∙ rw (← d.end))
 
 -- the answer h that g gives a refusal, wherever it stands
 module _ {B Z : Type 0} (g : ℕ → Read B → Z) (h : EmdfError → Z) (refuses : (e q : ℕ) (why : EmdfError) → h why ≡ g e (refused why q)) where
   pub by_field : (m : Reader ℕ) (k : ℕ → Reader B) (s : List ℕ) (e p : ℕ) {a : FieldAnswer} {why x : EmdfError} {c : BitCursor}
-      → a ≡ fieldAnswer e (m s e p) → a ≡ Refused why c → x ≡ fieldError a x → h x ≡ g e ((m >>= k) s e p)
+      → a ≡ field_answer e (m s e p) → a ≡ Refused why c → x ≡ field_error a x → h x ≡ g e ((m >>= k) s e p)
   by_field m k s e p {a} {why} {x} {c} i t z =
       let d = field-ended (m s e p) (sym i ∙ t) in
       let y : x ≡ why = rw t at z in
       ends g m k s e p d.is (ap h y ∙ refuses e c.position why)
 
   pub by_count : {A : Type 0} (m : Reader (List A)) (k : List A → Reader B) (s : List ℕ) (e p : ℕ) {a : CountAnswer} {why x : EmdfError}
-      → a ≡ countAnswer e (m s e p) → a ≡ CountAnswer.Refused why → x ≡ countError a x → h x ≡ g e ((m >>= k) s e p)
+      → a ≡ count_answer e (m s e p) → a ≡ CountAnswer.Refused why → x ≡ count_error a x → h x ≡ g e ((m >>= k) s e p)
   by_count m k s e p {a} {why} {x} i t z =
       let d = count-ended e (m s e p) (sym i ∙ t) in
       let y : x ≡ why = rw t at z in

@@ -1,8 +1,7 @@
 -- The answers of fields, by what emdf_format's readers find: e is the end of the cursor that was handed in. Assumes nothing.
-use Rattle.std.specs.Prelude.{List, ℕ, ◌+◌, ◌*◌, ◌^◌, length, ltb, eqb}
-use Rattle.openjoc_bitio.specs.Choice.{if◌then◌else◌}
+use Rattle.std.specs.Prelude.{List, ℕ, ◌+◌, ◌*◌, ◌^◌, length, ltb, eqb, if◌then◌else◌}
 use Rattle.emdf_format.specs.Syntax.{groups}
-use Rattle.emdf_format.specs.Reader.{Read, got, refused, Reader, ◌>>=◌, give, ask, choose, cursorAt, bits}
+use Rattle.emdf_format.specs.Reader.{Read, got, refused, Reader, ◌>>=◌, give, ask, choose, cursor_at, bits}
 use Rattle.emdf_format.specs.declared.EmdfError.{EmdfError}
 use Rattle.emdf_format.specs.declared.EmdfError.TheVariants.{VariableBitsGroupLimit, ValueOverflow}
 use Rattle.emdf_fields.specs.declared.FieldAnswer.{FieldAnswer}
@@ -16,29 +15,29 @@ use Rattle.emdf_fields.specs.declared.GroupAnswer.TheVariants as GroupAnswer
 use Rattle.emdf_fields.specs.declared.StartAnswer.{StartAnswer}
 use Rattle.emdf_fields.specs.declared.StartAnswer.TheVariants as StartAnswer
 
-unfoldable pub fieldAnswer : ℕ → Read ℕ → FieldAnswer
-fieldAnswer e (got v q) = FieldAnswer.Value v (cursorAt e q)
-fieldAnswer e (refused why q) = FieldAnswer.Refused why (cursorAt e q)
+unfoldable pub field_answer : ℕ → Read ℕ → FieldAnswer
+field_answer e (got v q) = FieldAnswer.Value v (cursor_at e q)
+field_answer e (refused why q) = FieldAnswer.Refused why (cursor_at e q)
 
 -- a variable field of groups of w bits, with how many groups its value takes
-unfoldable pub variableAnswer : ℕ → ℕ → Read ℕ → VariableAnswer
-variableAnswer w e (got v q) = VariableAnswer.Value v (groups w v) (cursorAt e q)
-variableAnswer w e (refused why q) = VariableAnswer.Refused why (cursorAt e q)
+unfoldable pub variable_answer : ℕ → ℕ → Read ℕ → VariableAnswer
+variable_answer w e (got v q) = VariableAnswer.Value v (groups w v) (cursor_at e q)
+variable_answer w e (refused why q) = VariableAnswer.Refused why (cursor_at e q)
 
 -- how many there are of what a reader lists
-unfoldable pub countAnswer : {A : Type 0} → ℕ → Read (List A) → CountAnswer
-countAnswer e (got xs q) = CountAnswer.Counted (length xs) (cursorAt e q)
-countAnswer e (refused why q) = CountAnswer.Refused why
+unfoldable pub count_answer : {A : Type 0} → ℕ → Read (List A) → CountAnswer
+count_answer e (got xs q) = CountAnswer.Counted (length xs) (cursor_at e q)
+count_answer e (refused why q) = CountAnswer.Refused why
 
 -- ---- r is why an answer is refused; of an accepted one nothing is said
 
-abbrev pub fieldError : FieldAnswer → EmdfError → EmdfError
-fieldError (FieldAnswer.Value v c) r = r
-fieldError (FieldAnswer.Refused why c) r = why
+abbrev pub field_error : FieldAnswer → EmdfError → EmdfError
+field_error (FieldAnswer.Value v c) r = r
+field_error (FieldAnswer.Refused why c) r = why
 
-abbrev pub countError : CountAnswer → EmdfError → EmdfError
-countError (CountAnswer.Counted n c) r = r
-countError (CountAnswer.Refused why) r = why
+abbrev pub count_error : CountAnswer → EmdfError → EmdfError
+count_error (CountAnswer.Counted n c) r = r
+count_error (CountAnswer.Refused why) r = why
 
 -- ---- one group of a variable field
 
@@ -46,9 +45,9 @@ pub data Group : Type 0 where
   last : ℕ → Group
   more : ℕ → Group
 
--- the body of emdf_format's groupsFrom, where n groups may follow
-unfoldable pub oneGroup : ℕ → ℕ → ℕ → ℕ → Reader Group
-oneGroup w limit n start = do
+-- the body of emdf_format's groups_from, where n groups may follow
+unfoldable pub one_group : ℕ → ℕ → ℕ → ℕ → Reader Group
+one_group w limit n start = do
   value ← bits w
   _ ← ask (ltb (start + value) (2 ^ 64)) ValueOverflow
   flag ← bits 1
@@ -57,34 +56,34 @@ oneGroup w limit n start = do
     _ ← ask (ltb ((start + value) * 2 ^ w + 2 ^ w) (2 ^ 64)) ValueOverflow
     give (more ((start + value) * 2 ^ w + 2 ^ w))
 
-unfoldable pub groupFound : Group → ℕ → ℕ → GroupAnswer
-groupFound (last v) e q = GroupAnswer.Last v (cursorAt e q)
-groupFound (more v) e q = GroupAnswer.More v (cursorAt e q)
+unfoldable pub group_found : Group → ℕ → ℕ → GroupAnswer
+group_found (last v) e q = GroupAnswer.Last v (cursor_at e q)
+group_found (more v) e q = GroupAnswer.More v (cursor_at e q)
 
-unfoldable pub groupAnswer : ℕ → Read Group → GroupAnswer
-groupAnswer e (got g q) = groupFound g e q
-groupAnswer e (refused why q) = GroupAnswer.Refused why (cursorAt e q)
+unfoldable pub group_answer : ℕ → Read Group → GroupAnswer
+group_answer e (got g q) = group_found g e q
+group_answer e (refused why q) = GroupAnswer.Refused why (cursor_at e q)
 
 -- the same of a group past its more bit, by the sum that it makes and by that bit
-unfoldable pub groupRest : ℕ → ℕ → ℕ → ℕ → ℕ → ℕ → ℕ → GroupAnswer
-groupRest w limit n sum flag e q =
+unfoldable pub group_rest : ℕ → ℕ → ℕ → ℕ → ℕ → ℕ → ℕ → GroupAnswer
+group_rest w limit n sum flag e q =
     if eqb flag 0
-    then GroupAnswer.Last sum (cursorAt e q)
+    then GroupAnswer.Last sum (cursor_at e q)
     else (if ltb 0 n
-    then (if ltb (sum * 2 ^ w + 2 ^ w) (2 ^ 64) then GroupAnswer.More (sum * 2 ^ w + 2 ^ w) (cursorAt e q) else GroupAnswer.Refused ValueOverflow (cursorAt e q))
-    else GroupAnswer.Refused (VariableBitsGroupLimit w limit) (cursorAt e q))
+    then (if ltb (sum * 2 ^ w + 2 ^ w) (2 ^ 64) then GroupAnswer.More (sum * 2 ^ w + 2 ^ w) (cursor_at e q) else GroupAnswer.Refused ValueOverflow (cursor_at e q))
+    else GroupAnswer.Refused (VariableBitsGroupLimit w limit) (cursor_at e q))
 
 -- by its value, which ends at q, and by its more bit
 unfoldable pub group_of : ℕ → ℕ → ℕ → ℕ → ℕ → ℕ → ℕ → ℕ → GroupAnswer
 group_of w limit n start value flag e q =
     if ltb (start + value) (2 ^ 64)
-    then groupRest w limit n (start + value) flag e (q + 1)
-    else GroupAnswer.Refused ValueOverflow (cursorAt e q)
+    then group_rest w limit n (start + value) flag e (q + 1)
+    else GroupAnswer.Refused ValueOverflow (cursor_at e q)
 
 -- r is a refused read, as a group's answer; of a read that is not refused nothing is said
-abbrev pub refusedGroup : FieldAnswer → GroupAnswer → GroupAnswer
-refusedGroup (FieldAnswer.Value v c) r = r
-refusedGroup (FieldAnswer.Refused why c) r = GroupAnswer.Refused why c
+abbrev pub refused_group : FieldAnswer → GroupAnswer → GroupAnswer
+refused_group (FieldAnswer.Value v c) r = r
+refused_group (FieldAnswer.Refused why c) r = GroupAnswer.Refused why c
 
-unfoldable pub startAnswer : ℕ → StartAnswer
-startAnswer v = if ltb v (2 ^ 64) then StartAnswer.Start v else StartAnswer.TooLarge
+unfoldable pub start_answer : ℕ → StartAnswer
+start_answer v = if ltb v (2 ^ 64) then StartAnswer.Start v else StartAnswer.TooLarge

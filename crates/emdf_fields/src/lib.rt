@@ -1,8 +1,8 @@
 // Fields: bits, variable fields, fields with an escape, octets. Each answers what its reader in emdf_format finds.
 ghost use Rattle.std.specs.Prelude.{◌≡◌, ◌+◌, ◌-◌, ◌*◌, ◌^◌, ◌<◌};
 ghost use Rattle.emdf_format.specs.Syntax.{escape as ones};
-ghost use Rattle.emdf_format.specs.Reader.{bits, groupsFrom, variableBits, extendedValue, octets};
-ghost use Rattle.emdf_fields.specs.Fields.{fieldAnswer, variableAnswer, groupAnswer, startAnswer, refusedGroup, oneGroup, group_of, groupRest, countAnswer, fieldError, countError};
+ghost use Rattle.emdf_format.specs.Reader.{bits, groups_from, variable_bits, extended_value, octets};
+ghost use Rattle.emdf_fields.specs.Fields.{field_answer, variable_answer, group_answer, start_answer, refused_group, one_group, group_of, group_rest, count_answer, field_error, count_error};
 
 use emdf_format::{EmdfError, MAX_EXTENDED_GROUPS};
 use openjoc_bitio::{BitCursor, BitError, BitsAnswer};
@@ -44,7 +44,7 @@ enum StartAnswer {
 
 // The next n bits.
 pub fn read_bits(s: &[u8], c: BitCursor, n: u8) -> FieldAnswer
-    ensures { result ≡ fieldAnswer c.end (bits n s.now c.end c.position) }
+    ensures { result ≡ field_answer c.end (bits n s.now c.end c.position) }
 {
     let a = c.read_bits(s, n);
     match a {
@@ -55,7 +55,7 @@ pub fn read_bits(s: &[u8], c: BitCursor, n: u8) -> FieldAnswer
 
 // A variable field: groups of width value bits and a more bit, at most limit of them; and how many they are.
 pub fn variable_bits(s: &[u8], c: BitCursor, width: u8, limit: u8) -> VariableAnswer
-    ensures { result ≡ variableAnswer width c.end (variableBits width limit s.now c.end c.position) }
+    ensures { result ≡ variable_answer width c.end (variable_bits width limit s.now c.end c.position) }
 {
     let start = c.position;
     match variable_field(s, c, width, limit) {
@@ -69,7 +69,7 @@ pub fn variable_bits(s: &[u8], c: BitCursor, width: u8, limit: u8) -> VariableAn
 
 // The same as a field, for callers who know the groups from the value.
 pub fn variable_field(s: &[u8], c: BitCursor, width: u8, limit: u8) -> FieldAnswer
-    ensures { result ≡ fieldAnswer c.end (variableBits width limit s.now c.end c.position) }
+    ensures { result ≡ field_answer c.end (variable_bits width limit s.now c.end c.position) }
 {
     if width == 0 {
         return FieldAnswer::Refused(EmdfError::InvalidVariableBits { width, limit }, c);
@@ -85,7 +85,7 @@ pub fn variable_field(s: &[u8], c: BitCursor, width: u8, limit: u8) -> FieldAnsw
 
 fn groups(s: &[u8], c: BitCursor, width: u8, limit: u8) -> FieldAnswer
     requires { (0 < width) × (width < 64) × (0 < limit) }
-    ensures { result ≡ fieldAnswer c.end (groupsFrom width limit limit 0 s.now c.end c.position) }
+    ensures { result ≡ field_answer c.end (groups_from width limit limit 0 s.now c.end c.position) }
 {
     let mut start: u64 = 0;
     let mut at = c;
@@ -111,7 +111,7 @@ fn groups(s: &[u8], c: BitCursor, width: u8, limit: u8) -> FieldAnswer
 // One group, where left are still allowed: from a word, where its bits are in one and are there.
 fn group(s: &[u8], c: BitCursor, width: u8, limit: u8, left: u8, start: u64) -> GroupAnswer
     requires { (0 < width) × (width < 64) × (0 < left) }
-    ensures { result ≡ groupAnswer c.end (oneGroup width limit (left - 1) start s.now c.end c.position) }
+    ensures { result ≡ group_answer c.end (one_group width limit (left - 1) start s.now c.end c.position) }
 {
     let position = c.position;
     let end = c.end;
@@ -144,7 +144,7 @@ fn group_by_fields(
     start: u64,
 ) -> GroupAnswer
     requires { (0 < width) × (width < 64) × (0 < left) }
-    ensures { result ≡ groupAnswer c.end (oneGroup width limit (left - 1) start s.now c.end c.position) }
+    ensures { result ≡ group_answer c.end (one_group width limit (left - 1) start s.now c.end c.position) }
 {
     let a = read_bits(s, c, width);
     let FieldAnswer::Value(value, c1) = a else {
@@ -191,7 +191,7 @@ fn group_rest(
     left: u8,
 ) -> GroupAnswer
     requires { (0 < width) × (width < 64) × (0 < left) }
-    ensures { result ≡ groupRest width limit (left - 1) sum more end position }
+    ensures { result ≡ group_rest width limit (left - 1) sum more end position }
 {
     let next = BitCursor { position, end };
     if more == 0 {
@@ -209,7 +209,7 @@ fn group_rest(
 
 // The refusal of a read, as a group's.
 fn refused_group(a: FieldAnswer) -> GroupAnswer
-    ensures { result ≡ refusedGroup a result }
+    ensures { result ≡ refused_group a result }
 {
     match a {
         FieldAnswer::Value(value, c) => GroupAnswer::Last(value, c),
@@ -220,7 +220,7 @@ fn refused_group(a: FieldAnswer) -> GroupAnswer
 // Where the next group's sum starts: value * 2^width + 2^width, in 64 bits.
 fn next_start(value: u64, width: u8) -> StartAnswer
     requires { (0 < width) × (width < 64) }
-    ensures { result ≡ startAnswer (value * 2 ^ width + 2 ^ width) }
+    ensures { result ≡ start_answer (value * 2 ^ width + 2 ^ width) }
 {
     let w = width as usize;
     let most = 0xffff_ffff_ffff_ffff >> w;
@@ -233,7 +233,7 @@ fn next_start(value: u64, width: u8) -> StartAnswer
 // A field with an escape, to which a variable field is added; the escape is all ones.
 pub fn extended_value(s: &[u8], c: BitCursor, escape: u64, width: u8) -> FieldAnswer
     requires { (width < 64) × (escape ≡ ones width) }
-    ensures { result ≡ fieldAnswer c.end (extendedValue width s.now c.end c.position) }
+    ensures { result ≡ field_answer c.end (extended_value width s.now c.end c.position) }
 {
     let a = read_bits(s, c, width);
     let FieldAnswer::Value(base, c1) = a else {
@@ -254,7 +254,7 @@ pub fn extended_value(s: &[u8], c: BitCursor, escape: u64, width: u8) -> FieldAn
 
 // Why a field was refused. Only a refusal is asked.
 pub fn field_error(a: FieldAnswer) -> EmdfError
-    ensures { result ≡ fieldError a result }
+    ensures { result ≡ field_error a result }
 {
     match a {
         FieldAnswer::Value(_, _) => EmdfError::ValueOverflow,
@@ -263,7 +263,7 @@ pub fn field_error(a: FieldAnswer) -> EmdfError
 }
 
 pub fn count_error(a: CountAnswer) -> EmdfError
-    ensures { result ≡ countError a result }
+    ensures { result ≡ count_error a result }
 {
     match a {
         CountAnswer::Counted(_, _) => EmdfError::ValueOverflow,
@@ -273,7 +273,7 @@ pub fn count_error(a: CountAnswer) -> EmdfError
 
 // Past n octets in one step. A missing one is refused as its own read would be.
 pub fn skip_octets(s: &[u8], c: BitCursor, n: u64) -> CountAnswer
-    ensures { result ≡ countAnswer c.end (octets n s.now c.end c.position) }
+    ensures { result ≡ count_answer c.end (octets n s.now c.end c.position) }
 {
     let remaining = c.bits_remaining(s);
     let there = (remaining / 8) as u64;

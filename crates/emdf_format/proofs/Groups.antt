@@ -8,14 +8,14 @@ use native.Mathlib.Omega.{arith}
 use lib.ListN.{length}
 use lib.Dec.{T, ltb, ltb→lt, leb→le, lit≤, lit<}
 use borrow.Author.Tests.{ltb-true, ltb-false, le-ltb, lt-ltb}
-use Rattle.openjoc_bitio.specs.Choice.{if◌then◌else◌}
+use Rattle.std.specs.Prelude.{if◌then◌else◌}
 use Rattle.emdf_format.specs.declared.Optional.{Optional}
 use Rattle.emdf_format.specs.declared.Optional.TheVariants.{Absent, Present}
-use Rattle.emdf_format.specs.Syntax.{groups, capacity, escape, extendedGroups}
-use Rattle.emdf_format.specs.Contents.{whenPresent, up_to, Payload, Contents, writableConfig, writablePayload, writablePayloads, writable, neededPayload, neededPayloads, neededBits}
-use Rattle.emdf_format.specs.Reader.{got, variableBits}
-use Rattle.emdf_format.specs.Reading.{Found, Container, accepted, reading, contentsOf}
-use Rattle.emdf_format.specs.Groups.{larger, optionalGroups, configGroups, payloadGroups, payloadsGroups, largestGroups, Grouping}
+use Rattle.emdf_format.specs.Syntax.{groups, capacity, escape, extended_groups}
+use Rattle.emdf_format.specs.Contents.{when_present, up_to, Payload, Contents, writable_config, writable_payload, writable_payloads, writable, needed_payload, needed_payloads, needed_bits}
+use Rattle.emdf_format.specs.Reader.{got, variable_bits}
+use Rattle.emdf_format.specs.Reading.{Found, Container, accepted, reading, contents_of}
+use Rattle.emdf_format.specs.Groups.{larger, optional_groups, config_groups, payload_groups, payloads_groups, largest_groups_of, Grouping}
 use Rattle.emdf_format.proofs.Standing.{both, stands-to, stands-in}
 use Rattle.emdf_format.proofs.Variable.{field-sound, length-field, groups-hold, groups-least}
 use Rattle.emdf_format.proofs.Payloads.{Spans}
@@ -24,7 +24,7 @@ use Rattle.emdf_format.proofs.Lengths.{length-container}
 use Rattle.emdf_format.proofs.Carrier.{read-contained, read-limit, read-size}
 
 -- a field that is read ends so many groups after its start
-pub field-groups : (w lim : ℕ) (s : List ℕ) (e p : ℕ) {q v : ℕ} → variableBits w lim s e p ≡ got v q → q ≡ p + (w + 1) * groups w v
+pub field-groups : (w lim : ℕ) (s : List ℕ) (e p : ℕ) {q v : ℕ} → variable_bits w lim s e p ≡ got v q → q ≡ p + (w + 1) * groups w v
 field-groups w lim s e p {v = v} h = omega (arith, stands-to (field-sound w lim h).stands, length-field w v)
 
 -- and a payload's size is as long as its body's
@@ -74,16 +74,16 @@ larger-least a b = by (ltb a b) refl
 
 -- ---- what is claimed of them
 
-extended-most : (w v : ℕ) → 2 ^ 64 ≤ capacity w 31 → v < 2 ^ 64 → extendedGroups w v ≤ 31
-unfolding extendedGroups
+extended-most : (w v : ℕ) → 2 ^ 64 ≤ capacity w 31 → v < 2 ^ 64 → extended_groups w v ≤ 31
+unfolding extended_groups
 extended-most w v h k = by (ltb v (escape w))
   where
     by : (t : Bool) → (if t then 0 else groups w (v - escape w)) ≤ 31
     by true = omega arith
     by false = groups-least w (v - escape w) 31 (omega arith)
 
-optional-most : (w n : ℕ) (o : Optional) → n < capacity w 31 → T (whenPresent (up_to n) o) → optionalGroups w o ≤ 31
-unfolding optionalGroups whenPresent up_to
+optional-most : (w n : ℕ) (o : Optional) → n < capacity w 31 → T (when_present (up_to n) o) → optional_groups w o ≤ 31
+unfolding optional_groups when_present up_to
 optional-most w n Absent l h = omega arith
 optional-most w n (Present v) l h = groups-least w v 31 (omega (arith, leb→le v n h))
 
@@ -91,8 +91,8 @@ size-most : (n : ℕ) → n < 65792 → groups 8 n ≤ 31
 unfolding capacity
 size-most n h = omega (arith, groups-least 8 n 2 h)
 
-payload-most : (x : Payload) → T (writablePayload x) → neededPayload x ≤ 8 * 65539 → payloadGroups x ≤ 31
-unfolding payloadGroups writablePayload writableConfig neededPayload capacity
+payload-most : (x : Payload) → T (writable_payload x) → needed_payload x ≤ 8 * 65539 → payload_groups x ≤ 31
+unfolding payload_groups writable_payload writable_config needed_payload capacity
 payload-most x h k =
     let a = both (both h).right in
     let t = both (both a.right).right in
@@ -102,18 +102,18 @@ payload-most x h k =
     (larger-most (optional-most 11 4_196_351 _ (lit< tt) t.left) (optional-most 2 6_148_914_691_236_517_203 _ (lit< tt) (both t.right).left)))
     (size-most (length x.body) (omega arith))
 
-payloads-most : (xs : List Payload) → T (writablePayloads xs) → neededPayloads xs ≤ 8 * 65539 → payloadsGroups xs ≤ 31
-unfolding payloadsGroups writablePayloads neededPayloads
+payloads-most : (xs : List Payload) → T (writable_payloads xs) → needed_payloads xs ≤ 8 * 65539 → payloads_groups xs ≤ 31
+unfolding payloads_groups writable_payloads needed_payloads
 payloads-most [] h k = omega arith
 payloads-most (x ∷ xs) h k =
     larger-most (payload-most x (both h).left (omega arith)) (payloads-most xs (both h).right (omega arith))
 
-most : (s : List ℕ) (n : ℕ) (c : Container) → reading s ≡ accepted n c → largestGroups (contentsOf c) ≤ 31
-unfolding largestGroups writable neededBits capacity
+most : (s : List ℕ) (n : ℕ) (c : Container) → reading s ≡ accepted n c → largest_groups_of (contents_of c) ≤ 31
+unfolding largest_groups_of writable needed_bits capacity
 most s n c h =
     let (q, d) = read-contained s n c h in
     let z = contained-stands d in
-    let l : neededBits (contentsOf c) ≤ 8 * 65539 = omega (arith, length-container (contentsOf c), stands-to z, stands-in z (omega (arith, length-container (contentsOf c))), read-limit s n c h, read-size s n c h) in
+    let l : needed_bits (contents_of c) ≤ 8 * 65539 = omega (arith, length-container (contents_of c), stands-to z, stands-in z (omega (arith, length-container (contents_of c))), read-limit s n c h, read-size s n c h) in
     let f = both d.fit in
     larger-most (extended-most 3 c.key-id (lit≤ tt) (ltb→lt c.key-id (2 ^ 64) f.left)) (payloads-most _ (both f.right).left (omega (arith, l)))
 
@@ -121,27 +121,27 @@ some : (w v : ℕ) → 0 < groups w v
 unfolding groups
 some w v = omega arith
 
-no-extension : (v : ℕ) → extendedGroups 3 v ≡ 0 → v < 7
-unfolding extendedGroups escape
+no-extension : (v : ℕ) → extended_groups 3 v ≡ 0 → v < 7
+unfolding extended_groups escape
 no-extension v h = by (ltb v 7) refl h
   where
     by : (t : Bool) → ltb v 7 ≡ t → (if t then 0 else groups 3 (v - 7)) ≡ 0 → v < 7
     by true k e = ltb-true v 7 k
     by false k e = absurd (omega (arith, e, some 3 (v - 7)))
 
-no_payload : (xs : List Payload) → payloadsGroups xs ≡ 0 → xs ≡ []
-unfolding payloadsGroups payloadGroups
+no_payload : (xs : List Payload) → payloads_groups xs ≡ 0 → xs ≡ []
+unfolding payloads_groups payload_groups
 no_payload [] h = refl
 no_payload (x ∷ xs) h =
-    absurd (omega (arith, h, larger-least (payloadGroups x) (payloadsGroups xs), larger-least (larger (extendedGroups 5 x.id) (configGroups x.config)) (groups 8 (length x.body)), some 8 (length x.body)))
+    absurd (omega (arith, h, larger-least (payload_groups x) (payloads_groups xs), larger-least (larger (extended_groups 5 x.id) (config_groups x.config)) (groups 8 (length x.body)), some 8 (length x.body)))
 
-none : (c : Contents) → (largestGroups c ≡ 0) ↔ ((c.key-id < 7) × (c.payloads ≡ []))
-unfolding largestGroups extendedGroups payloadsGroups escape
+none : (c : Contents) → (largest_groups_of c ≡ 0) ↔ ((c.key-id < 7) × (c.payloads ≡ []))
+unfolding largest_groups_of extended_groups payloads_groups escape
 none c = (forth, λ h. rw (h.1, lt-ltb c.key-id 7 h.0))
   where
-    forth : largestGroups c ≡ 0 → (c.key-id < 7) × (c.payloads ≡ [])
+    forth : largest_groups_of c ≡ 0 → (c.key-id < 7) × (c.payloads ≡ [])
     forth h =
-        let l = larger-least (extendedGroups 3 c.key-id) (payloadsGroups c.payloads) in
+        let l = larger-least (extended_groups 3 c.key-id) (payloads_groups c.payloads) in
         (no-extension c.key-id (omega (arith, h, l)), no_payload c.payloads (omega (arith, h, l)))
 
 pub grouping : Grouping

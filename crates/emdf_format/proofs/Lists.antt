@@ -8,19 +8,19 @@ use native.Mathlib.Omega.{arith}
 use lib.ListN.{length, take, drop, replicate, length-append, length-drop}
 use lib.Seq.{take_at, take-length}
 use lib.Dec.{T, leb, ltb, eqb, leb→le, le→leb, lt→ltb, eqb_refl}
-use Rattle.openjoc_bitio.specs.Choice.{if◌then◌else◌}
+use Rattle.std.specs.Prelude.{if◌then◌else◌}
 use Rattle.openjoc_bitio.specs.declared.ByteCount.{ByteCount}
 use Rattle.emdf_format.specs.declared.EditError.{EditError}
 use Rattle.emdf_format.specs.declared.EditAnswer.TheVariants.{Written}
-use Rattle.emdf_format.specs.Syntax.{mostDeclared}
-use Rattle.emdf_format.specs.Contents.{Payload, Contents, ◌&◌, writable, declared, carrier, all_bytes, bodiesAreBytes, contentsAreBytes}
-use Rattle.emdf_format.specs.Reading.{Container, Reading, accepted, refusal, reading, contentsOf}
+use Rattle.emdf_format.specs.Syntax.{most_declared}
+use Rattle.emdf_format.specs.Contents.{Payload, Contents, ◌&◌, writable, declared, carrier, all_bytes, bodies_are_bytes, contents_are_bytes}
+use Rattle.emdf_format.specs.Reading.{Container, Reading, accepted, refusal, reading, contents_of}
 use Rattle.emdf_format.specs.Calls.{in_table}
-use Rattle.emdf_format.specs.Ordinals.{ordinalAt, ids_of}
-use Rattle.emdf_format.specs.Edits.{Edit, bodyEdit, settingsEdit, dropEdit, insertEdit, keyEdit, protectionEdit, withAt, withBody, withConfig, withPayloads, cleared, change, placeExists, Stepped, changed, unchanged, carrierLength, inRoom, stepTo, step, stepAnswer, stepContents, written, stepFrom, edited, Call, nextSource, done, leaves, answers, eventOf, events, outcome, plainContents, plainAnswers, Bytes, EditBytes, CallsBytes, ReadsAs, EqualityOfCarriers}
+use Rattle.emdf_format.specs.Ordinals.{ordinal_at, ids_of}
+use Rattle.emdf_format.specs.Edits.{Edit, body_edit, settings_edit, drop_edit, insert_edit, key_edit, protection_edit, with_at, with_body, with_config, with_payloads, cleared, change, place_exists, Stepped, changed, unchanged, carrier_length, in_room, step_to, step, step_answer, step_contents, written, step_from, edited, Call, next_source, done, leaves, answers, event_of, events, outcome, plain_contents, plain_answers, Bytes, EditBytes, CallsBytes, ReadsAs, EqualityOfCarriers}
 use Rattle.emdf_format.proofs.Standing.{T_of, if_yes, both, and}
-use Rattle.emdf_format.proofs.Payloads.{allFoundFrom}
-use Rattle.emdf_format.proofs.Container.{containerFrom}
+use Rattle.emdf_format.proofs.Payloads.{all_found_from}
+use Rattle.emdf_format.proofs.Container.{container_from}
 use Rattle.emdf_format.proofs.Bytes.{length-carrier}
 use Rattle.emdf_format.proofs.Carrier.{read-sound, read-exact, contents-back, carrier-injective}
 use Rattle.emdf_format.proofs.Ordinals.{row-numbered}
@@ -32,22 +32,22 @@ use Rattle.emdf_format.proofs.Spans.{laid}
 pub record Carries (s : List ℕ) (c : Contents) : Type 0 where
   pub is : s ≡ carrier c
   pub fit : T (writable c)
-  pub bytes : T (contentsAreBytes c)
+  pub bytes : T (contents_are_bytes c)
   pub small : declared c ≤ 65535
 
 -- bytes that are exactly one container
-pub carried : (s : List ℕ) (k : Container) → Bytes s → reading s ≡ accepted (length s) k → Carries s (contentsOf k)
+pub carried : (s : List ℕ) (k : Container) → Bytes s → reading s ≡ accepted (length s) k → Carries s (contents_of k)
 carried s k bs h =
     let r = read-sound s (length s) k bs h in
     record { is = sym (take-length s) ∙ r.is; fit = r.fit; bytes = r.bytes; small = r.small }
 
-carries-read : {s : List ℕ} {c : Contents} → Carries s c → reading s ≡ accepted (length s) (containerFrom 32 c)
+carries-read : {s : List ℕ} {c : Contents} → Carries s c → reading s ≡ accepted (length s) (container_from 32 c)
 carries-read {s} {c} k =
-    let r : reading (carrier c ++ []) ≡ accepted (4 + declared c) (containerFrom 32 c) = read-exact c [] k.fit k.bytes k.small in
+    let r : reading (carrier c ++ []) ≡ accepted (4 + declared c) (container_from 32 c) = read-exact c [] k.fit k.bytes k.small in
     rw (k.is, length-carrier c) (rw append-nil at r)
 
-length_found : (p : ℕ) (xs : List Payload) → length (allFoundFrom p xs) ≡ length xs
-unfolding allFoundFrom
+length_found : (p : ℕ) (xs : List Payload) → length (all_found_from p xs) ≡ length xs
+unfolding all_found_from
 length_found p [] = refl
 length_found p (x ∷ xs) = ap suc (length_found _ xs)
 
@@ -63,12 +63,12 @@ unfolding in_table
 reads_as {s} {c} k =
     let r = carries-read k in
     record {
-      container = containerFrom 32 c;
+      container = container_from 32 c;
       whole = r;
       contents = contents-back 32 c;
-      records = λ rows h. rw r (if_yes (leb (length (containerFrom 32 c).found) rows) _ _ (le→leb _ rows (rw length_found h)));
-      ordinals = λ i row h. row-numbered (containerFrom 32 c).found i row h ∙ ap (λ (x : Contents). ordinalAt (ids_of x.payloads) i) (contents-back 32 c);
-      bodies = (laid s (length s) (containerFrom 32 c) r).bodies;
+      records = λ rows h. rw r (if_yes (leb (length (container_from 32 c).found) rows) _ _ (le→leb _ rows (rw length_found h)));
+      ordinals = λ i row h. row-numbered (container_from 32 c).found i row h ∙ ap (λ (x : Contents). ordinal_at (ids_of x.payloads) i) (contents-back 32 c);
+      bodies = (laid s (length s) (container_from 32 c) r).bodies;
     }
 
 -- ---- an edit keeps bytes bytes
@@ -78,26 +78,26 @@ unfolding all_bytes
 all-bytes [] h = tt
 all-bytes (b ∷ bs) h = and _ _ (lt→ltb b 256 (h 0)) (all-bytes bs (λ i. h (suc i)))
 
-bytes-append : (xs ys : List Payload) → T (bodiesAreBytes xs) → T (bodiesAreBytes ys) → T (bodiesAreBytes (xs ++ ys))
-unfolding bodiesAreBytes
+bytes-append : (xs ys : List Payload) → T (bodies_are_bytes xs) → T (bodies_are_bytes ys) → T (bodies_are_bytes (xs ++ ys))
+unfolding bodies_are_bytes
 bytes-append [] ys h k = k
 bytes-append (x ∷ xs) ys h k = and _ _ (both h).left (bytes-append xs ys (both h).right k)
 
-bytes_take : (n : ℕ) (xs : List Payload) → T (bodiesAreBytes xs) → T (bodiesAreBytes (take n xs))
-unfolding bodiesAreBytes
+bytes_take : (n : ℕ) (xs : List Payload) → T (bodies_are_bytes xs) → T (bodies_are_bytes (take n xs))
+unfolding bodies_are_bytes
 bytes_take zero xs h = tt
 bytes_take (suc n) [] h = tt
 bytes_take (suc n) (x ∷ xs) h = and _ _ (both h).left (bytes_take n xs (both h).right)
 
-bytes_drop : (n : ℕ) (xs : List Payload) → T (bodiesAreBytes xs) → T (bodiesAreBytes (drop n xs))
-unfolding bodiesAreBytes
+bytes_drop : (n : ℕ) (xs : List Payload) → T (bodies_are_bytes xs) → T (bodies_are_bytes (drop n xs))
+unfolding bodies_are_bytes
 bytes_drop zero xs h = h
 bytes_drop (suc n) [] h = tt
 bytes_drop (suc n) (x ∷ xs) h = bytes_drop n xs (both h).right
 
 bytes-at : (k : ℕ) (f : Payload → Payload) (xs : List Payload) → ((x : Payload) → T (all_bytes x.body) → T (all_bytes (f x).body))
-    → T (bodiesAreBytes xs) → T (bodiesAreBytes (withAt k f xs))
-unfolding bodiesAreBytes withAt
+    → T (bodies_are_bytes xs) → T (bodies_are_bytes (with_at k f xs))
+unfolding bodies_are_bytes with_at
 bytes-at k f [] g h = tt
 bytes-at zero f (x ∷ xs) g h = and _ _ (g x (both h).left) (both h).right
 bytes-at (suc k) f (x ∷ xs) g h = and _ _ (both h).left (bytes-at k f xs g (both h).right)
@@ -111,20 +111,20 @@ clear-bytes : (c : Contents) → T (all_bytes (cleared c).primary & all_bytes (c
 unfolding cleared
 clear-bytes c = and _ _ (zero-bytes (length c.primary)) (zero-bytes (length c.secondary))
 
-change-bytes : (e : Edit) (c : Contents) → EditBytes e → T (contentsAreBytes c) → T (contentsAreBytes (change e c))
-unfolding EditBytes contentsAreBytes change withPayloads cleared bodiesAreBytes
-change-bytes (bodyEdit k bs) c h f = and _ _ (bytes-at k (withBody bs) c.payloads (λ x i. all-bytes bs h) (both f).left) (clear-bytes c)
-change-bytes (settingsEdit k t) c h f = and _ _ (bytes-at k (withConfig t) c.payloads (λ x i. i) (both f).left) (clear-bytes c)
-change-bytes (dropEdit k) c h f =
+change-bytes : (e : Edit) (c : Contents) → EditBytes e → T (contents_are_bytes c) → T (contents_are_bytes (change e c))
+unfolding EditBytes contents_are_bytes change with_payloads cleared bodies_are_bytes
+change-bytes (body_edit k bs) c h f = and _ _ (bytes-at k (with_body bs) c.payloads (λ x i. all-bytes bs h) (both f).left) (clear-bytes c)
+change-bytes (settings_edit k t) c h f = and _ _ (bytes-at k (with_config t) c.payloads (λ x i. i) (both f).left) (clear-bytes c)
+change-bytes (drop_edit k) c h f =
     let xs = c.payloads in
     and _ _ (bytes-append (take k xs) (drop (suc k) xs) (bytes_take k xs (both f).left) (bytes_drop (suc k) xs (both f).left)) (clear-bytes c)
-change-bytes (insertEdit k i t bs) c h f =
+change-bytes (insert_edit k i t bs) c h f =
     let xs = c.payloads in
     let x : Payload = record { id = i; config = t; body = bs } in
-    let g : T (bodiesAreBytes (x ∷ drop k xs)) = and _ _ (all-bytes bs h) (bytes_drop k xs (both f).left) in
+    let g : T (bodies_are_bytes (x ∷ drop k xs)) = and _ _ (all-bytes bs h) (bytes_drop k xs (both f).left) in
     and _ _ (bytes-append (take k xs) (x ∷ drop k xs) (bytes_take k xs (both f).left) g) (clear-bytes c)
-change-bytes (keyEdit i) c h f = and _ _ (both f).left (clear-bytes c)
-change-bytes (protectionEdit a b) c h f = and _ _ (both f).left (and _ _ (all-bytes a h.0) (all-bytes b h.1))
+change-bytes (key_edit i) c h f = and _ _ (both f).left (clear-bytes c)
+change-bytes (protection_edit a b) c h f = and _ _ (both f).left (and _ _ (all-bytes a h.0) (all-bytes b h.1))
 
 -- ---- one edit
 
@@ -136,62 +136,62 @@ asked false o why h = absurd (let z : ◌≡◌ {A = ℕ} 0 1 = cc in omega arit
 -- what a step that changes c to d says of d
 pub record Changes (e : Edit) (room : ℕ) (c d : Contents) : Type 0 where
   pub is : change e c ≡ d
-  pub place : placeExists e (length c.payloads) ≡ true
+  pub place : place_exists e (length c.payloads) ≡ true
   pub fit : T (writable d)
-  pub small : declared d ≤ mostDeclared
-  pub fits : carrierLength d ≤ room
+  pub small : declared d ≤ most_declared
+  pub fits : carrier_length d ≤ room
 
 pub changes : (e : Edit) (room : ℕ) (c d : Contents) → step e room c ≡ changed d → Changes e room c d
-unfolding step stepTo inRoom
+unfolding step step_to in_room
 changes e room c d h =
-    let (place, h₁) = asked (placeExists e (length c.payloads)) _ _ h in
+    let (place, h₁) = asked (place_exists e (length c.payloads)) _ _ h in
     let (fit, h₂) = asked (writable (change e c)) _ _ h₁ in
-    let (small, h₃) = asked (leb (declared (change e c)) mostDeclared) _ _ h₂ in
-    let (fits, h₄) = asked (leb (carrierLength (change e c)) room) _ _ h₃ in
+    let (small, h₃) = asked (leb (declared (change e c)) most_declared) _ _ h₂ in
+    let (fits, h₄) = asked (leb (carrier_length (change e c)) room) _ _ h₃ in
     let is : change e c ≡ d = cc in
     rw (← is) (record {
       is = refl;
       place = place;
       fit = T_of fit;
-      small = leb→le (declared (change e c)) mostDeclared (T_of small);
-      fits = leb→le (carrierLength (change e c)) room (T_of fits);
+      small = leb→le (declared (change e c)) most_declared (T_of small);
+      fits = leb→le (carrier_length (change e c)) room (T_of fits);
     })
 
 -- ---- a destination keeps its length, and what is written lies in it
 
-from-fits : (r : Reading) (len room : ℕ) (e : Edit) (d : Contents) → stepFrom r len e room ≡ changed d → carrierLength d ≤ room
-unfolding stepFrom
-from-fits (accepted n k) len room e d h = (changes e room (contentsOf k) d (asked (eqb n len) _ _ h).1).fits
+from-fits : (r : Reading) (len room : ℕ) (e : Edit) (d : Contents) → step_from r len e room ≡ changed d → carrier_length d ≤ room
+unfolding step_from
+from-fits (accepted n k) len room e d h = (changes e room (contents_of k) d (asked (eqb n len) _ _ h).1).fits
 from-fits (refusal why) len room e d h = absurd (let z : ◌≡◌ {A = ℕ} 0 1 = cc in omega arith)
 
 pub keeps-length : (e : Edit) (src dst : List ℕ) → length (edited e src dst).destination ≡ length dst
 unfolding edited written
-keeps-length e src dst = by (stepFrom (reading src) (length src) e (length dst)) refl
+keeps-length e src dst = by (step_from (reading src) (length src) e (length dst)) refl
   where
-    by : (o : Stepped) → stepFrom (reading src) (length src) e (length dst) ≡ o → length (written o dst) ≡ length dst
+    by : (o : Stepped) → step_from (reading src) (length src) e (length dst) ≡ o → length (written o dst) ≡ length dst
     by (changed d) h = rw (length-append, length-carrier d, length-drop) (omega (arith, from-fits (reading src) (length src) (length dst) e d h))
     by (unchanged why) h = refl
 
 pub in-room : (e : Edit) (src dst : List ℕ) (n : ByteCount) → (edited e src dst).answer ≡ Written n → n.0 ≤ length dst
-unfolding edited stepAnswer
-in-room e src dst n = by (stepFrom (reading src) (length src) e (length dst)) refl
+unfolding edited step_answer
+in-room e src dst n = by (step_from (reading src) (length src) e (length dst)) refl
   where
-    by : (o : Stepped) → stepFrom (reading src) (length src) e (length dst) ≡ o → stepAnswer o ≡ Written n → n.0 ≤ length dst
-    by (changed d) h k = let z : record { 0 = carrierLength d } ≡ n = cc in rw (← z) (from-fits (reading src) (length src) (length dst) e d h)
+    by : (o : Stepped) → step_from (reading src) (length src) e (length dst) ≡ o → step_answer o ≡ Written n → n.0 ≤ length dst
+    by (changed d) h k = let z : record { 0 = carrier_length d } ≡ n = cc in rw (← z) (from-fits (reading src) (length src) (length dst) e d h)
     by (unchanged why) h k = absurd (let z : ◌≡◌ {A = ℕ} 0 1 = cc in omega arith)
 
 -- an edit of a carrier is the step of its contents
-stepped-is : (e : Edit) {s : List ℕ} {c : Contents} (room : ℕ) → Carries s c → stepFrom (reading s) (length s) e room ≡ step e room c
-unfolding stepFrom
+stepped-is : (e : Edit) {s : List ℕ} {c : Contents} (room : ℕ) → Carries s c → step_from (reading s) (length s) e room ≡ step e room c
+unfolding step_from
 stepped-is e {s} {c} room k =
     rw (carries-read k) (if_yes (eqb (length s) (length s)) _ _ (eqb_refl (length s)) ∙ rw contents-back)
 
 -- what the next edit starts from
 next-carries : (o : Stepped) {s : List ℕ} {c : Contents} (dst : List ℕ) → Carries s c → ((c' : Contents) → o ≡ changed c' → Carries (carrier c') c')
-    → Carries (nextSource s (stepAnswer o) (written o dst)) (stepContents o c)
-unfolding nextSource stepAnswer written stepContents
+    → Carries (next_source s (step_answer o) (written o dst)) (step_contents o c)
+unfolding next_source step_answer written step_contents
 next-carries (changed c') dst k f =
-    subst (λ (x : List ℕ). Carries x c') (sym (take_at (carrier c') (drop (carrierLength c') dst) (carrierLength c') (length-carrier c'))) (f c' refl)
+    subst (λ (x : List ℕ). Carries x c') (sym (take_at (carrier c') (drop (carrier_length c') dst) (carrier_length c') (length-carrier c'))) (f c' refl)
 next-carries (unchanged why) dst k f = k
 
 changed-carries : (e : Edit) (room : ℕ) {s : List ℕ} (c : Contents) → EditBytes e → Carries s c → (c' : Contents) → step e room c ≡ changed c' → Carries (carrier c') c'
@@ -201,8 +201,8 @@ changed-carries e room c b k c' h =
 
 -- one call follows its event
 pub record Followed (s : List ℕ) (c : Contents) (t : Call) : Type 0 where
-  pub left : Carries (done s t).left (outcome c (eventOf t)).contents
-  pub answered : (done s t).answer ≡ (outcome c (eventOf t)).answer
+  pub left : Carries (done s t).left (outcome c (event_of t)).contents
+  pub answered : (done s t).answer ≡ (outcome c (event_of t)).answer
 
 pub followed : (s : List ℕ) (c : Contents) (t : Call) → EditBytes t.edit → Carries s c → Followed s c t
 unfolding done outcome edited
@@ -215,11 +215,11 @@ followed s c t b k =
 -- ---- a list of calls
 
 pub record FollowedAll (s : List ℕ) (c : Contents) (ts : List Call) : Type 0 where
-  pub left : Carries (leaves s ts) (plainContents c (events ts))
-  pub answered : answers s ts ≡ plainAnswers c (events ts)
+  pub left : Carries (leaves s ts) (plain_contents c (events ts))
+  pub answered : answers s ts ≡ plain_answers c (events ts)
 
 follow : (s : List ℕ) (c : Contents) (ts : List Call) → CallsBytes ts → Carries s c → FollowedAll s c ts
-unfolding leaves answers events plainContents plainAnswers CallsBytes
+unfolding leaves answers events plain_contents plain_answers CallsBytes
 follow s c [] b k = record { left = k; answered = refl }
 follow s c (t ∷ ts) b k =
     let f = followed s c t b.0 k in
@@ -229,8 +229,8 @@ follow s c (t ∷ ts) b k =
 pub equality-of-carriers : EqualityOfCarriers
 equality-of-carriers = record {
   claim = λ s₁ s₂ k₁ k₂ ts₁ ts₂ b₁ b₂ e₁ e₂ h₁ h₂.
-      let f₁ = follow s₁ (contentsOf k₁) ts₁ e₁ (carried s₁ k₁ b₁ h₁) in
-      let f₂ = follow s₂ (contentsOf k₂) ts₂ e₂ (carried s₂ k₂ b₂ h₂) in (
+      let f₁ = follow s₁ (contents_of k₁) ts₁ e₁ (carried s₁ k₁ b₁ h₁) in
+      let f₂ = follow s₂ (contents_of k₂) ts₂ e₂ (carried s₂ k₂ b₂ h₂) in (
         carries_same f₁.left f₂.left,
         record { answered = f₁.answered; reads = reads_as f₁.left },
         record { answered = f₂.answered; reads = reads_as f₂.left },

@@ -11,15 +11,15 @@ use lib.Dec.{T, eqb, eqb→eq}
 use lib.ListN.{length, get_or, get_elem?, take, drop, take-append-drop}
 use lib.Seq.{length-take-le, drop-cons, take-suc, take-append_seam, take-append-le, take-append-add, get_or-append_seam, get_or-append-add, get_or-take, get_or-drop, take-take}
 use borrow.Author.Tests.{eq-eqb, eqb-true}
-use Rattle.openjoc_bitio.specs.Choice.{if◌then◌else◌}
+use Rattle.std.specs.Prelude.{if◌then◌else◌}
 use Rattle.emdf_format.specs.Types.{EmdfPayloadConfig, PayloadRow, FindAnswer, FindError}
 use Rattle.emdf_format.specs.declared.FindError.TheVariants as FindError
 use Rattle.emdf_format.specs.declared.FindAnswer.TheVariants as FindAnswer
 use Rattle.emdf_format.specs.Contents.{Payload, Contents, ◌&◌}
-use Rattle.emdf_format.specs.Reading.{Found, Container, accepted, payloadsOf}
-use Rattle.emdf_format.specs.Ordinals.{occurrences, ordinalAt, ids_of, ids_in, rows_from, rows_of, rowIds, findIn, findPayload, Numbered, FindsExactly}
-use Rattle.emdf_format.specs.Calls.{tableAfter, TableInvariant}
-use Rattle.emdf_format.specs.Edits.{bodyEdit, settingsEdit, dropEdit, insertEdit, keyEdit, protectionEdit, withAt, withBody, withConfig, withPayloads, cleared, change, OrdinalsOfEdits}
+use Rattle.emdf_format.specs.Reading.{Found, Container, accepted, payloads_of}
+use Rattle.emdf_format.specs.Ordinals.{occurrences, ordinal_at, ids_of, ids_in, rows_from, rows_of, row_ids, find_in, find_payload, Numbered, FindsExactly}
+use Rattle.emdf_format.specs.Calls.{table_after, TableInvariant}
+use Rattle.emdf_format.specs.Edits.{body_edit, settings_edit, drop_edit, insert_edit, key_edit, protection_edit, with_at, with_body, with_config, with_payloads, cleared, change, OrdinalsOfEdits}
 use Rattle.emdf_format.proofs.Standing.{both, and}
 
 -- ---- occurrences
@@ -82,38 +82,38 @@ occurrences-take x n xs = omega (arith, ap (occurrences x) (take-append-drop n x
 -- ---- ordinals in a list of two parts
 
 -- within the first part the second doesn't count
-ordinal-within : (xs ys : List ℕ) (i : ℕ) → i < length xs → ordinalAt (xs ++ ys) i ≡ ordinalAt xs i
-unfolding ordinalAt
+ordinal-within : (xs ys : List ℕ) (i : ℕ) → i < length xs → ordinal_at (xs ++ ys) i ≡ ordinal_at xs i
+unfolding ordinal_at
 ordinal-within xs ys i h =
     let e : get_or (xs ++ ys) i 0 ≡ get_or xs i 0 = sym (get_or-take (length xs) (xs ++ ys) i 0 h) ∙ ap (λ (l : List ℕ). get_or l i 0) (take-append_seam xs ys) in
     rw (e, take-append-le (suc i) xs ys (omega arith))
 
 -- in the second those of the first are added
-ordinal-past : (xs ys : List ℕ) (i : ℕ) → ordinalAt (xs ++ ys) (length xs + i) ≡ occurrences (get_or ys i 0) xs + ordinalAt ys i
-unfolding ordinalAt
+ordinal-past : (xs ys : List ℕ) (i : ℕ) → ordinal_at (xs ++ ys) (length xs + i) ≡ occurrences (get_or ys i 0) xs + ordinal_at ys i
+unfolding ordinal_at
 ordinal-past xs ys i =
     let e : suc (length xs + i) ≡ length xs + suc i = omega arith in
     rw (get_or-append-add xs ys i 0, e, take-append-add xs ys (suc i)) (occurrences-append (get_or ys i 0) xs (take (suc i) ys))
 
 -- the first of the second part
-pub ordinal-next : (xs : List ℕ) (y : ℕ) (ys : List ℕ) → ordinalAt (xs ++ y ∷ ys) (length xs) ≡ suc (occurrences y xs)
-unfolding ordinalAt
+pub ordinal-next : (xs : List ℕ) (y : ℕ) (ys : List ℕ) → ordinal_at (xs ++ y ∷ ys) (length xs) ≡ suc (occurrences y xs)
+unfolding ordinal_at
 ordinal-next xs y ys =
     let e : suc (length xs) ≡ length xs + 1 = omega arith in
     rw (get_or-append_seam xs y ys 0, e, take-append-add xs (y ∷ ys) 1) (omega (arith, occurrences-append y xs (y ∷ []), occurrences-own y))
 
 -- one more in front of the others
-ordinal-more : (y : ℕ) (ys : List ℕ) (i : ℕ) → ordinalAt (y ∷ ys) (suc i) ≡ (if eqb y (get_or ys i 0) then suc (ordinalAt ys i) else ordinalAt ys i)
-unfolding ordinalAt occurrences
+ordinal-more : (y : ℕ) (ys : List ℕ) (i : ℕ) → ordinal_at (y ∷ ys) (suc i) ≡ (if eqb y (get_or ys i 0) then suc (ordinal_at ys i) else ordinal_at ys i)
+unfolding ordinal_at occurrences
 ordinal-more y ys i = refl
 
 -- a list with one more between two parts: behind it, its own ids' ordinals are by 1 larger
 ordinal-between : (xs : List ℕ) (y : ℕ) (ys : List ℕ) (i : ℕ)
-    → ordinalAt (xs ++ y ∷ ys) (length xs + suc i) ≡ (if eqb y (get_or ys i 0) then suc (ordinalAt (xs ++ ys) (length xs + i)) else ordinalAt (xs ++ ys) (length xs + i))
+    → ordinal_at (xs ++ y ∷ ys) (length xs + suc i) ≡ (if eqb y (get_or ys i 0) then suc (ordinal_at (xs ++ ys) (length xs + i)) else ordinal_at (xs ++ ys) (length xs + i))
 ordinal-between xs y ys i = rw (ordinal-past xs (y ∷ ys) (suc i), ordinal-past xs ys i, ordinal-more y ys i) (go (eqb y (get_or ys i 0)))
   where
-    go : (t : Bool) → occurrences (get_or ys i 0) xs + (if t then suc (ordinalAt ys i) else ordinalAt ys i)
-        ≡ (if t then suc (occurrences (get_or ys i 0) xs + ordinalAt ys i) else occurrences (get_or ys i 0) xs + ordinalAt ys i)
+    go : (t : Bool) → occurrences (get_or ys i 0) xs + (if t then suc (ordinal_at ys i) else ordinal_at ys i)
+        ≡ (if t then suc (occurrences (get_or ys i 0) xs + ordinal_at ys i) else occurrences (get_or ys i 0) xs + ordinal_at ys i)
     go true = omega arith
     go false = refl
 
@@ -124,15 +124,15 @@ behind xs ys i h =
     ap (λ (n : ℕ). get_or (xs ++ ys) n 0) e ∙ get_or-append-add xs ys (i - length xs) 0
 
 between : (xs : List ℕ) (y : ℕ) (ys : List ℕ) (i : ℕ) → length xs ≤ i
-    → ordinalAt (xs ++ y ∷ ys) (suc i) ≡ (if eqb y (get_or (xs ++ ys) i 0) then suc (ordinalAt (xs ++ ys) i) else ordinalAt (xs ++ ys) i)
+    → ordinal_at (xs ++ y ∷ ys) (suc i) ≡ (if eqb y (get_or (xs ++ ys) i 0) then suc (ordinal_at (xs ++ ys) i) else ordinal_at (xs ++ ys) i)
 between xs y ys i h =
     let d : length xs + (i - length xs) ≡ i = omega arith in
     let e : suc i ≡ length xs + suc (i - length xs) = omega arith in
-    rw (behind xs ys i h) (ap (ordinalAt (xs ++ y ∷ ys)) e ∙ rw d at (ordinal-between xs y ys (i - length xs)))
+    rw (behind xs ys i h) (ap (ordinal_at (xs ++ y ∷ ys)) e ∙ rw d at (ordinal-between xs y ys (i - length xs)))
 
 -- of two of the same id, the later one's is larger
-ordinals-rise : (ids : List ℕ) (i j : ℕ) → i < j → j < length ids → get_or ids i 0 ≡ get_or ids j 0 → ordinalAt ids i < ordinalAt ids j
-unfolding ordinalAt
+ordinals-rise : (ids : List ℕ) (i j : ℕ) → i < j → j < length ids → get_or ids i 0 ≡ get_or ids j 0 → ordinal_at ids i < ordinal_at ids j
+unfolding ordinal_at
 ordinals-rise ids i j h k e =
     let t : take (suc i) (take j ids) ≡ take (suc i) ids = take-take (suc i) j ids (omega arith) in
     omega (arith, same_id ids j k (get_or ids j 0) refl, ap (λ (x : ℕ). occurrences x (take (suc i) ids)) e, ap (occurrences (get_or ids j 0)) t, occurrences-take (get_or ids j 0) (suc i) (take j ids))
@@ -162,13 +162,13 @@ length_ids [] = refl
 length_ids (x ∷ xs) = ap suc (length_ids xs)
 
 pub length-ids-in : (xs : List Found) → length (ids_in xs) ≡ length xs
-unfolding ids_of payloadsOf
+unfolding ids_of payloads_of
 length-ids-in [] = refl
 length-ids-in (x ∷ xs) = ap suc (length-ids-in xs)
 
 -- another payload with the same id
-ids-with : (k : ℕ) (f : Payload → Payload) (xs : List Payload) → ((x : Payload) → (f x).id ≡ x.id) → ids_of (withAt k f xs) ≡ ids_of xs
-unfolding ids_of withAt
+ids-with : (k : ℕ) (f : Payload → Payload) (xs : List Payload) → ((x : Payload) → (f x).id ≡ x.id) → ids_of (with_at k f xs) ≡ ids_of xs
+unfolding ids_of with_at
 ids-with k f [] h = refl
 ids-with zero f (x ∷ xs) h = rw (h x)
 ids-with (suc k) f (x ∷ xs) h = ap (λ (l : List ℕ). x.id ∷ l) (ids-with k f xs h)
@@ -187,12 +187,12 @@ module _ (c : Contents) where
     length_before : k ≤ length c.payloads → length before ≡ k
     length_before h = length-take-le k ids (omega (arith, length_ids c.payloads))
 
-    ids-dropped : ids_of (change (dropEdit k) c).payloads ≡ before ++ drop (suc k) ids
-    unfolding change withPayloads cleared
+    ids-dropped : ids_of (change (drop_edit k) c).payloads ≡ before ++ drop (suc k) ids
+    unfolding change with_payloads cleared
     ids-dropped = ids-append (take k c.payloads) (drop (suc k) c.payloads) ∙ rw (ids-take k c.payloads, ids-drop (suc k) c.payloads)
 
-    ids-inserted : (x : ℕ) (t : EmdfPayloadConfig) (bs : List ℕ) → ids_of (change (insertEdit k x t bs) c).payloads ≡ before ++ x ∷ drop k ids
-    unfolding change withPayloads cleared ids_of
+    ids-inserted : (x : ℕ) (t : EmdfPayloadConfig) (bs : List ℕ) → ids_of (change (insert_edit k x t bs) c).payloads ≡ before ++ x ∷ drop k ids
+    unfolding change with_payloads cleared ids_of
     ids-inserted x t bs = ids-append (take k c.payloads) (record { id = x; config = t; body = bs } ∷ drop k c.payloads) ∙ rw (ids-take k c.payloads, ids-drop k c.payloads)
 
     parted : before ++ drop k ids ≡ ids
@@ -201,17 +201,17 @@ module _ (c : Contents) where
     parted-at : k < length c.payloads → before ++ get_or ids k 0 ∷ drop (suc k) ids ≡ ids
     parted-at h = ap (λ (r : List ℕ). before ++ r) (sym (drop-cons ids k 0 (omega (arith, length_ids c.payloads)))) ∙ parted
 
-    at_place : (i : ℕ) {l : List ℕ} {m : List ℕ} → l ≡ m → ordinalAt l i ≡ ordinalAt m i
-    at_place i e = ap (λ (l : List ℕ). ordinalAt l i) e
+    at_place : (i : ℕ) {l : List ℕ} {m : List ℕ} → l ≡ m → ordinal_at l i ≡ ordinal_at m i
+    at_place i e = ap (λ (l : List ℕ). ordinal_at l i) e
 
-    before-drop : (i : ℕ) → k < length c.payloads → i < k → ordinalAt (ids_of (change (dropEdit k) c).payloads) i ≡ ordinalAt ids i
+    before-drop : (i : ℕ) → k < length c.payloads → i < k → ordinal_at (ids_of (change (drop_edit k) c).payloads) i ≡ ordinal_at ids i
     before-drop i h l =
         let n : i < length before = omega (arith, length_before (omega arith)) in
         at_place i ids-dropped ∙ ordinal-within before (drop (suc k) ids) i n ∙ sym (ordinal-within before (drop k ids) i n) ∙ at_place i parted
 
     after-drop : (i : ℕ) → k ≤ i → suc i < length c.payloads
-        → ordinalAt ids (suc i)
-        ≡ (if eqb (get_or ids k 0) (get_or ids (suc i) 0) then suc (ordinalAt (ids_of (change (dropEdit k) c).payloads) i) else ordinalAt (ids_of (change (dropEdit k) c).payloads) i)
+        → ordinal_at ids (suc i)
+        ≡ (if eqb (get_or ids k 0) (get_or ids (suc i) 0) then suc (ordinal_at (ids_of (change (drop_edit k) c).payloads) i) else ordinal_at (ids_of (change (drop_edit k) c).payloads) i)
     after-drop i h l =
         let n : length before ≤ i = omega (arith, length_before (omega arith)) in
         let e : get_or (before ++ drop (suc k) ids) i 0 ≡ get_or ids (suc i) 0 =
@@ -219,33 +219,33 @@ module _ (c : Contents) where
         at_place (suc i) (sym (parted-at (omega arith))) ∙ rw (e, ← ids-dropped) at (between before (get_or ids k 0) (drop (suc k) ids) i n)
 
     module _ (x : ℕ) (t : EmdfPayloadConfig) (bs : List ℕ) where
-      before-insert : (i : ℕ) → k ≤ length c.payloads → i < k → ordinalAt (ids_of (change (insertEdit k x t bs) c).payloads) i ≡ ordinalAt ids i
+      before-insert : (i : ℕ) → k ≤ length c.payloads → i < k → ordinal_at (ids_of (change (insert_edit k x t bs) c).payloads) i ≡ ordinal_at ids i
       before-insert i h l =
           let n : i < length before = omega (arith, length_before h) in
           at_place i (ids-inserted x t bs) ∙ ordinal-within before (x ∷ drop k ids) i n ∙ sym (ordinal-within before (drop k ids) i n) ∙ at_place i parted
 
-      inserted : k ≤ length c.payloads → ordinalAt (ids_of (change (insertEdit k x t bs) c).payloads) k ≡ suc (occurrences x before)
+      inserted : k ≤ length c.payloads → ordinal_at (ids_of (change (insert_edit k x t bs) c).payloads) k ≡ suc (occurrences x before)
       inserted h = at_place k (ids-inserted x t bs) ∙ rw (length_before h) at (ordinal-next before x (drop k ids))
 
       after-insert : (i : ℕ) → k ≤ i → i < length c.payloads
-          → ordinalAt (ids_of (change (insertEdit k x t bs) c).payloads) (suc i) ≡ (if eqb x (get_or ids i 0) then suc (ordinalAt ids i) else ordinalAt ids i)
+          → ordinal_at (ids_of (change (insert_edit k x t bs) c).payloads) (suc i) ≡ (if eqb x (get_or ids i 0) then suc (ordinal_at ids i) else ordinal_at ids i)
       after-insert i h l =
           let n : length before ≤ i = omega (arith, length_before (omega arith)) in
           at_place (suc i) (ids-inserted x t bs) ∙ rw parted at (between before x (drop k ids) i n)
 
-  other-body : (k i : ℕ) (bs : List ℕ) → ordinalAt (ids_of (change (bodyEdit k bs) c).payloads) i ≡ ordinalAt ids i
-  unfolding change withPayloads cleared
-  other-body k i bs = at_place k i (ids-with k (withBody bs) c.payloads (λ x. refl))
+  other-body : (k i : ℕ) (bs : List ℕ) → ordinal_at (ids_of (change (body_edit k bs) c).payloads) i ≡ ordinal_at ids i
+  unfolding change with_payloads cleared
+  other-body k i bs = at_place k i (ids-with k (with_body bs) c.payloads (λ x. refl))
 
-  other-settings : (k i : ℕ) (t : EmdfPayloadConfig) → ordinalAt (ids_of (change (settingsEdit k t) c).payloads) i ≡ ordinalAt ids i
-  unfolding change withPayloads cleared
-  other-settings k i t = at_place k i (ids-with k (withConfig t) c.payloads (λ x. refl))
+  other-settings : (k i : ℕ) (t : EmdfPayloadConfig) → ordinal_at (ids_of (change (settings_edit k t) c).payloads) i ≡ ordinal_at ids i
+  unfolding change with_payloads cleared
+  other-settings k i t = at_place k i (ids-with k (with_config t) c.payloads (λ x. refl))
 
-  other_key : (i x : ℕ) → ordinalAt (ids_of (change (keyEdit x) c).payloads) i ≡ ordinalAt ids i
+  other_key : (i x : ℕ) → ordinal_at (ids_of (change (key_edit x) c).payloads) i ≡ ordinal_at ids i
   unfolding change
   other_key i x = refl
 
-  other-protection : (i : ℕ) (a b : List ℕ) → ordinalAt (ids_of (change (protectionEdit a b) c).payloads) i ≡ ordinalAt ids i
+  other-protection : (i : ℕ) (a b : List ℕ) → ordinal_at (ids_of (change (protection_edit a b) c).payloads) i ≡ ordinal_at ids i
   unfolding change
   other-protection i a b = refl
 
@@ -264,35 +264,35 @@ ordinals-of-edits = record {
 
 -- ---- rows
 
-row-ordinal : (ids : List ℕ) (k : ℕ) (xs : List Found) (i : ℕ) (r : PayloadRow) → get_elem? (rows_from ids k xs) i ≡ some r → r.ordinal ≡ ordinalAt ids (k + i)
+row-ordinal : (ids : List ℕ) (k : ℕ) (xs : List Found) (i : ℕ) (r : PayloadRow) → get_elem? (rows_from ids k xs) i ≡ some r → r.ordinal ≡ ordinal_at ids (k + i)
 unfolding rows_from
 row-ordinal ids k [] i r h = absurd (let w : ◌≡◌ {A = ℕ} 0 1 = cc in omega arith)
 row-ordinal ids k (x ∷ xs) zero r h =
-    let e : record { payload = x.record_of; ordinal = ordinalAt ids k } ≡ r = cc in
+    let e : record { payload = x.record_of; ordinal = ordinal_at ids k } ≡ r = cc in
     rw (← e, add-zero)
 row-ordinal ids k (x ∷ xs) (suc i) r h = let e : suc k + i ≡ k + suc i = omega arith in rw e at (row-ordinal ids (suc k) xs i r h)
 
-pub row-numbered : (xs : List Found) (i : ℕ) (r : PayloadRow) → get_elem? (rows_of xs) i ≡ some r → r.ordinal ≡ ordinalAt (ids_in xs) i
+pub row-numbered : (xs : List Found) (i : ℕ) (r : PayloadRow) → get_elem? (rows_of xs) i ≡ some r → r.ordinal ≡ ordinal_at (ids_in xs) i
 unfolding rows_of
 row-numbered xs i r h = rw zero-add at (row-ordinal (ids_in xs) 0 xs i r h)
 
 row-id : (ids : List ℕ) (k : ℕ) (xs : List Found) (i : ℕ) (r : PayloadRow) → get_elem? (rows_from ids k xs) i ≡ some r → (r.payload.id ≡ get_or (ids_in xs) i 0) × (i < length (ids_in xs))
-unfolding rows_from ids_of payloadsOf
+unfolding rows_from ids_of payloads_of
 row-id ids k [] i r h = absurd (let w : ◌≡◌ {A = ℕ} 0 1 = cc in omega arith)
 row-id ids k (x ∷ xs) zero r h =
-    let e : record { payload = x.record_of; ordinal = ordinalAt ids k } ≡ r = cc in
+    let e : record { payload = x.record_of; ordinal = ordinal_at ids k } ≡ r = cc in
     (rw (← e), omega arith)
 row-id ids k (x ∷ xs) (suc i) r h = let (a, b) = row-id ids (suc k) xs i r h in (a, omega arith)
 
 -- ---- the table's invariant
 
-row-ids : (ids : List ℕ) (k : ℕ) (xs : List Found) → rowIds (rows_from ids k xs) ≡ ids_in xs
-unfolding rows_from rowIds ids_of payloadsOf
+row-ids : (ids : List ℕ) (k : ℕ) (xs : List Found) → row_ids (rows_from ids k xs) ≡ ids_in xs
+unfolding rows_from row_ids ids_of payloads_of
 row-ids ids k [] = refl
 row-ids ids k (x ∷ xs) = ap (λ (l : List ℕ). x.record_of.id ∷ l) (row-ids ids (suc k) xs)
 
-row-ids-take : (n : ℕ) (rs : List PayloadRow) → rowIds (take n rs) ≡ take n (rowIds rs)
-unfolding rowIds
+row-ids-take : (n : ℕ) (rs : List PayloadRow) → row_ids (take n rs) ≡ take n (row_ids rs)
+unfolding row_ids
 row-ids-take zero rs = refl
 row-ids-take (suc n) [] = refl
 row-ids-take (suc n) (r ∷ rs) = ap (λ (l : List ℕ). r.payload.id ∷ l) (row-ids-take n rs)
@@ -302,10 +302,10 @@ unfolding rows_from
 length-rows ids k [] = refl
 length-rows ids k (x ∷ xs) = ap suc (length-rows ids (suc k) xs)
 
-row-there : (ids : List ℕ) (k : ℕ) (xs : List Found) (j : ℕ) → j < length xs → Numbered (rows_from ids k xs) j (get_or (ids_in xs) j 0) (ordinalAt ids (k + j))
-unfolding rows_from ids_of payloadsOf
+row-there : (ids : List ℕ) (k : ℕ) (xs : List Found) (j : ℕ) → j < length xs → Numbered (rows_from ids k xs) j (get_or (ids_in xs) j 0) (ordinal_at ids (k + j))
+unfolding rows_from ids_of payloads_of
 row-there ids k [] j h = absurd (omega arith)
-row-there ids k (x ∷ xs) zero h = record { row = record { payload = x.record_of; ordinal = ordinalAt ids k }; at = refl; id = refl; ordinal = rw add-zero }
+row-there ids k (x ∷ xs) zero h = record { row = record { payload = x.record_of; ordinal = ordinal_at ids k }; at = refl; id = refl; ordinal = rw add-zero }
 row-there ids k (x ∷ xs) (suc j) h =
     let e : suc k + j ≡ k + suc j = omega arith in
     let a = row-there ids (suc k) xs j (omega arith) in
@@ -332,24 +332,24 @@ module _ (xs : List Found) (qs : List PayloadRow) where
     own_row : {x o : ℕ} → Numbered filled k x o → Numbered (rows_of xs) k x o
     own_row a = record { row = a.row; at = sym (element-within (rows_of xs) qs k in_rows) ∙ a.at; id = a.id; ordinal = a.ordinal }
 
-    filled_row : Numbered filled k (get_or (ids_in xs) k 0) (ordinalAt (ids_in xs) k)
+    filled_row : Numbered filled k (get_or (ids_in xs) k 0) (ordinal_at (ids_in xs) k)
     unfolding rows_of
     filled_row =
         let a = row-there (ids_in xs) 0 xs k h in
         record { row = a.row; at = element-within (rows_of xs) qs k in_rows ∙ a.at; id = a.id; ordinal = rw zero-add at a.ordinal }
 
     row_is : {x o : ℕ} → Numbered filled k x o → (get_or (ids_in xs) k 0 ≡ x) × (o ≡ occurrences x (take (suc k) (ids_in xs)))
-    unfolding rows_of ordinalAt
+    unfolding rows_of ordinal_at
     row_is {x} {o} a =
         let b = own_row a in
         let i : get_or (ids_in xs) k 0 ≡ x = sym (row-id (ids_in xs) 0 xs k b.row b.at).0 ∙ b.id in
         (i, sym b.ordinal ∙ row-numbered xs k b.row b.at ∙ ap (λ (y : ℕ). occurrences y (take (suc k) (ids_in xs))) i)
 
-    ids-filled : rowIds (take (suc k) filled) ≡ take (suc k) (ids_in xs)
+    ids-filled : row_ids (take (suc k) filled) ≡ take (suc k) (ids_in xs)
     unfolding rows_of
-    ids-filled = ap rowIds (take-append-le (suc k) (rows_of xs) qs in_rows) ∙ row-ids-take (suc k) (rows_of xs) ∙ ap (take (suc k)) (row-ids (ids_in xs) 0 xs)
+    ids-filled = ap row_ids (take-append-le (suc k) (rows_of xs) qs in_rows) ∙ row-ids-take (suc k) (rows_of xs) ∙ ap (take (suc k)) (row-ids (ids_in xs) 0 xs)
 
-    row-counted : {x o : ℕ} → Numbered filled k x o → o ≡ occurrences x (rowIds (take (suc k) filled))
+    row-counted : {x o : ℕ} → Numbered filled k x o → o ≡ occurrences x (row_ids (take (suc k) filled))
     row-counted {x} a = (row_is a).1 ∙ ap (occurrences x) (sym ids-filled)
 
     -- its ordinal is by 1 more than there are before it
@@ -357,15 +357,15 @@ module _ (xs : List Found) (qs : List PayloadRow) where
     row-follows {x} a = (row_is a).1 ∙ same_id (ids_in xs) k in_ids x (row_is a).0
 
   one-before : (k : ℕ) {x o : ℕ} → k < length xs → Numbered filled k x (suc (suc o)) → (j : ℕ) × (j < k) × Numbered filled j x (suc o)
-  unfolding ordinalAt
+  unfolding ordinal_at
   one-before k {x} {o} h a =
       let (j, l, i, e) = last-among (ids_in xs) x o k (omega (arith, length-ids-in xs)) (omega (arith, row-follows k h a)) in
       let b = filled_row j (omega arith) in
-      let f : ordinalAt (ids_in xs) j ≡ suc o = ap (λ (y : ℕ). occurrences y (take (suc j) (ids_in xs))) i ∙ e in
+      let f : ordinal_at (ids_in xs) j ≡ suc o = ap (λ (y : ℕ). occurrences y (take (suc j) (ids_in xs))) i ∙ e in
       (j, l, record { row = b.row; at = b.at; id = b.id ∙ i; ordinal = b.ordinal ∙ f })
 
 pub table-invariant : TableInvariant
-unfolding tableAfter
+unfolding table_after
 table-invariant n c table = record {
   counted = λ k x o h a. row-counted c.found (drop (length c.found) table) k h a;
   from_one = λ k x o h a. omega (arith, row-follows c.found (drop (length c.found) table) k h a);
@@ -390,12 +390,12 @@ module _ (xs : List Found) where
 
 -- ---- finding
 
-found-row : (x o k : ℕ) (rs : List PayloadRow) (p : ℕ) → findIn x o k rs ≡ FindAnswer.Place p → (i : ℕ) × (p ≡ k + i) × Numbered rs i x o
-unfolding findIn
+found-row : (x o k : ℕ) (rs : List PayloadRow) (p : ℕ) → find_in x o k rs ≡ FindAnswer.Place p → (i : ℕ) × (p ≡ k + i) × Numbered rs i x o
+unfolding find_in
 found-row x o k [] p h = absurd (let w : ◌≡◌ {A = ℕ} 0 1 = cc in omega arith)
 found-row x o k (r ∷ rs) p h = go (eqb r.payload.id x & eqb r.ordinal o) refl h (λ f. found-row x o (suc k) rs p f)
   where
-    go : (t : Bool) → (eqb r.payload.id x & eqb r.ordinal o) ≡ t → (if t then FindAnswer.Place k else findIn x o (suc k) rs) ≡ FindAnswer.Place p → (findIn x o (suc k) rs ≡ FindAnswer.Place p → (i : ℕ) × (p ≡ suc k + i) × Numbered rs i x o)
+    go : (t : Bool) → (eqb r.payload.id x & eqb r.ordinal o) ≡ t → (if t then FindAnswer.Place k else find_in x o (suc k) rs) ≡ FindAnswer.Place p → (find_in x o (suc k) rs ≡ FindAnswer.Place p → (i : ℕ) × (p ≡ suc k + i) × Numbered rs i x o)
         → (i : ℕ) × (p ≡ k + i) × Numbered (r ∷ rs) i x o
     go true e f later =
         let d = both (subst T (sym e) tt) in
@@ -405,9 +405,9 @@ found-row x o k (r ∷ rs) p h = go (eqb r.payload.id x & eqb r.ordinal o) refl 
         let (i, l, a) = later f in
         (suc i, omega arith, record { row = a.row; at = a.at; id = a.id; ordinal = a.ordinal })
 
-not_found : (x o k : ℕ) (rs : List PayloadRow) (why : FindError) → findIn x o k rs ≡ FindAnswer.Refused why
+not_found : (x o k : ℕ) (rs : List PayloadRow) (why : FindError) → find_in x o k rs ≡ FindAnswer.Refused why
     → (why ≡ FindError.NoSuchOrdinal) × ((i : ℕ) → Numbered rs i x o → ⊥)
-unfolding findIn
+unfolding find_in
 not_found x o k [] why h = (cc, λ i a. let w : ◌≡◌ {A = ℕ} 0 1 = cc a.at in omega arith)
 not_found x o k (r ∷ rs) why h = go (eqb r.payload.id x & eqb r.ordinal o) refl h (λ f. not_found x o (suc k) rs why f)
   where
@@ -418,7 +418,7 @@ not_found x o k (r ∷ rs) why h = go (eqb r.payload.id x & eqb r.ordinal o) ref
         let l : r.ordinal ≡ o = ap (λ u. u.ordinal) (sym z) ∙ a.ordinal in
         subst T e (and _ _ (subst T (sym (eq-eqb r.payload.id x i)) tt) (subst T (sym (eq-eqb r.ordinal o l)) tt))
 
-    go : (t : Bool) → (eqb r.payload.id x & eqb r.ordinal o) ≡ t → (if t then FindAnswer.Place k else findIn x o (suc k) rs) ≡ FindAnswer.Refused why → (findIn x o (suc k) rs ≡ FindAnswer.Refused why → (why ≡ FindError.NoSuchOrdinal) × ((i : ℕ) → Numbered rs i x o → ⊥))
+    go : (t : Bool) → (eqb r.payload.id x & eqb r.ordinal o) ≡ t → (if t then FindAnswer.Place k else find_in x o (suc k) rs) ≡ FindAnswer.Refused why → (find_in x o (suc k) rs ≡ FindAnswer.Refused why → (why ≡ FindError.NoSuchOrdinal) × ((i : ℕ) → Numbered rs i x o → ⊥))
         → (why ≡ FindError.NoSuchOrdinal) × ((i : ℕ) → Numbered (r ∷ rs) i x o → ⊥)
     go true e f later = absurd (let w : ◌≡◌ {A = ℕ} 0 1 = cc in omega arith)
     go false e f later = let (y, g) = later f in (y, none-at g)
@@ -431,30 +431,30 @@ module _ (n : ℕ) (c : Container) (x o : ℕ) where
   abbrev rows : List PayloadRow
   rows = rows_of c.found
 
-  found_at : (k : ℕ) → findPayload x o (accepted n c) ≡ FindAnswer.Place k → Numbered rows k x o
-  unfolding findPayload
+  found_at : (k : ℕ) → find_payload x o (accepted n c) ≡ FindAnswer.Place k → Numbered rows k x o
+  unfolding find_payload
   found_at k h = let (i, e, a) = found-row x o 0 rows k h in subst (λ (j : ℕ). Numbered rows j x o) (omega arith) a
 
-  at-found : (k : ℕ) → Numbered rows k x o → findPayload x o (accepted n c) ≡ FindAnswer.Place k
-  unfolding findPayload
-  at-found k a = go (findIn x o 0 rows) refl
+  at-found : (k : ℕ) → Numbered rows k x o → find_payload x o (accepted n c) ≡ FindAnswer.Place k
+  unfolding find_payload
+  at-found k a = go (find_in x o 0 rows) refl
     where
-      go : (r : FindAnswer) → findIn x o 0 rows ≡ r → findIn x o 0 rows ≡ FindAnswer.Place k
+      go : (r : FindAnswer) → find_in x o 0 rows ≡ r → find_in x o 0 rows ≡ FindAnswer.Place k
       go (FindAnswer.Place p) h =
           let (i, e, b) = found-row x o 0 rows p h in
           let d : p ≡ k = omega (arith, one_place c.found a b) in
           h ∙ ap FindAnswer.Place d
       go (FindAnswer.Refused why) h = absurd ((not_found x o 0 rows why h).1 k a)
 
-  none_found : findPayload x o (accepted n c) ≡ FindAnswer.Refused FindError.NoSuchOrdinal → (k : ℕ) → Numbered rows k x o → ⊥
-  unfolding findPayload
+  none_found : find_payload x o (accepted n c) ≡ FindAnswer.Refused FindError.NoSuchOrdinal → (k : ℕ) → Numbered rows k x o → ⊥
+  unfolding find_payload
   none_found h = (not_found x o 0 rows FindError.NoSuchOrdinal h).1
 
-  found_none : ((k : ℕ) → Numbered rows k x o → ⊥) → findPayload x o (accepted n c) ≡ FindAnswer.Refused FindError.NoSuchOrdinal
-  unfolding findPayload
-  found_none f = go (findIn x o 0 rows) refl
+  found_none : ((k : ℕ) → Numbered rows k x o → ⊥) → find_payload x o (accepted n c) ≡ FindAnswer.Refused FindError.NoSuchOrdinal
+  unfolding find_payload
+  found_none f = go (find_in x o 0 rows) refl
     where
-      go : (r : FindAnswer) → findIn x o 0 rows ≡ r → findIn x o 0 rows ≡ FindAnswer.Refused FindError.NoSuchOrdinal
+      go : (r : FindAnswer) → find_in x o 0 rows ≡ r → find_in x o 0 rows ≡ FindAnswer.Refused FindError.NoSuchOrdinal
       go (FindAnswer.Place p) h = let (i, e, b) = found-row x o 0 rows p h in absurd (f i b)
       go (FindAnswer.Refused why) h = h ∙ ap FindAnswer.Refused (not_found x o 0 rows why h).0
 

@@ -10,16 +10,16 @@ use lib.Dec.{T, leb, ltb, eqb, leb→le, ltb→lt, lt→ltb, T_not, not_T, eqb_r
 use lib.Pow.{high, pow_pos}
 use lib.Pow.{split as pow-split}
 use borrow.Author.Tests.{le-leb}
-use Rattle.openjoc_bitio.specs.Choice.{if◌then◌else◌}
-use Rattle.openjoc_bitio.specs.Bits.{bit_at, bitsValue, numberBits}
-use Rattle.openjoc_bitio.specs.Cursor.{bitLength, bitsRemaining, readBits}
+use Rattle.std.specs.Prelude.{if◌then◌else◌}
+use Rattle.openjoc_bitio.specs.Bits.{bit_at, bits_value, number_bits}
+use Rattle.openjoc_bitio.specs.Cursor.{bit_length, bits_remaining, read_bits}
 use Rattle.openjoc_bitio.specs.declared.BitError.TheVariants.{InvalidWidth, EndOfInput}
 use Rattle.openjoc_bitio.specs.declared.BitsAnswer.TheVariants.{Value, Refused}
 use Rattle.openjoc_bitio.proofs.Bits.{bit-range, value_none, value-first, value-range, number-high, number-low}
 use Rattle.emdf_format.specs.declared.EmdfError.{EmdfError}
 use Rattle.emdf_format.specs.Syntax.{◌⨟◌}
 use Rattle.emdf_format.specs.Contents.{◌&◌}
-use Rattle.emdf_format.specs.Reader.{Read, got, refused, Reader, and_then, ◌>>=◌, give, ask, choose, cursorAt, fromBits, bits}
+use Rattle.emdf_format.specs.Reader.{Read, got, refused, Reader, and_then, ◌>>=◌, give, ask, choose, cursor_at, from_bits, bits}
 
 -- ---- tests as facts
 
@@ -81,12 +81,12 @@ and false b h k = absurd h
 -- ---- bits that stand
 
 -- the end, where it lies in the bytes
-unfoldable pub bitLimit : List ℕ → ℕ → ℕ
-bitLimit s e = if leb e (bitLength s) then e else 0
+unfoldable pub bit_limit : List ℕ → ℕ → ℕ
+bit_limit s e = if leb e (bit_length s) then e else 0
 
-pub remaining-limit : (s : List ℕ) (e p : ℕ) → bitsRemaining s (cursorAt e p) ≡ bitLimit s e - p
-unfolding bitsRemaining bitLimit
-remaining-limit s e p = go (leb e (bitLength s))
+pub remaining-limit : (s : List ℕ) (e p : ℕ) → bits_remaining s (cursor_at e p) ≡ bit_limit s e - p
+unfolding bits_remaining bit_limit
+remaining-limit s e p = go (leb e (bit_length s))
   where
     go : (t : Bool) → (if t then e - p else 0) ≡ (if t then e else 0) - p
     go true = refl
@@ -95,7 +95,7 @@ remaining-limit s e p = go (leb e (bitLength s))
 -- from position p to position q, below the end, stand the bits bs
 pub data Stands (s : List ℕ) (e : ℕ) : ℕ → ℕ → List ℕ → Type 0 where
   nil : {p : ℕ} → Stands s e p p []
-  cons : {p q b : ℕ} {bs : List ℕ} → p < bitLimit s e → bit_at s p ≡ b → Stands s e (suc p) q bs → Stands s e p q (b ∷ bs)
+  cons : {p q b : ℕ} {bs : List ℕ} → p < bit_limit s e → bit_at s p ≡ b → Stands s e (suc p) q bs → Stands s e p q (b ∷ bs)
 
 pub join : {s : List ℕ} {e p q r : ℕ} {xs ys : List ℕ} → Stands s e p q xs → Stands s e q r ys → Stands s e p r (xs ⨟ ys)
 unfolding ◌⨟◌
@@ -120,36 +120,36 @@ pub stands-to : {s : List ℕ} {e p q : ℕ} {bs : List ℕ} → Stands s e p q 
 stands-to nil = omega arith
 stands-to (cons l b h) = omega (arith, stands-to h)
 
-pub stands-in : {s : List ℕ} {e p q : ℕ} {bs : List ℕ} → Stands s e p q bs → 0 < length bs → q ≤ bitLimit s e
+pub stands-in : {s : List ℕ} {e p q : ℕ} {bs : List ℕ} → Stands s e p q bs → 0 < length bs → q ≤ bit_limit s e
 stands-in nil h = absurd (omega arith)
 stands-in (cons {bs = []} l b nil) h = omega arith
 stands-in (cons {bs = x ∷ xs} l b t) h = stands-in t (omega arith)
 
-pub stands-within : {s : List ℕ} {e p q : ℕ} {bs : List ℕ} → Stands s e p q bs → p ≤ bitLimit s e → q ≤ bitLimit s e
+pub stands-within : {s : List ℕ} {e p q : ℕ} {bs : List ℕ} → Stands s e p q bs → p ≤ bit_limit s e → q ≤ bit_limit s e
 stands-within nil h = h
 stands-within (cons l b t) h = stands-within t l
 
 -- ---- numbers of w bits
 
-pub number-stands : (s : List ℕ) (e p w : ℕ) → w ≤ bitLimit s e - p → Stands s e p (p + w) (numberBits w (bitsValue s p w))
-unfolding numberBits
+pub number-stands : (s : List ℕ) (e p w : ℕ) → w ≤ bit_limit s e - p → Stands s e p (p + w) (number_bits w (bits_value s p w))
+unfolding number_bits
 number-stands s e p zero h = rw add-zero nil
 number-stands s e p (suc w) h =
     let v = value-first s p w in
-    let t : Stands s e (suc p) (p + suc w) (numberBits w (bit_at s p * 2 ^ w + bitsValue s (suc p) w)) =
-    rw (let z : numberBits w (bit_at s p * 2 ^ w + bitsValue s (suc p) w) ≡ numberBits w (bitsValue s (suc p) w) = rw add-zero at (number-high w 0 (bit_at s p) (bitsValue s (suc p) w)) in z, add-suc p w, ← suc-add p w) (number-stands s e (suc p) w (omega arith)) in
-    let l : p < bitLimit s e = omega arith in
-    let b : bit_at s p ≡ (bit_at s p * 2 ^ w + bitsValue s (suc p) w) / 2 ^ w % 2 =
+    let t : Stands s e (suc p) (p + suc w) (number_bits w (bit_at s p * 2 ^ w + bits_value s (suc p) w)) =
+    rw (let z : number_bits w (bit_at s p * 2 ^ w + bits_value s (suc p) w) ≡ number_bits w (bits_value s (suc p) w) = rw add-zero at (number-high w 0 (bit_at s p) (bits_value s (suc p) w)) in z, add-suc p w, ← suc-add p w) (number-stands s e (suc p) w (omega arith)) in
+    let l : p < bit_limit s e = omega arith in
+    let b : bit_at s p ≡ (bit_at s p * 2 ^ w + bits_value s (suc p) w) / 2 ^ w % 2 =
     rw (high (bit_at s p) w (value-range s (suc p) w)) (omega (arith, bit-range s p)) in
     rw v (cons l b t)
 
 pub record Numbered (s : List ℕ) (e p q w v : ℕ) : Type 0 where
-  pub room : w ≤ bitLimit s e - p
-  pub is : bitsValue s p w ≡ v
+  pub room : w ≤ bit_limit s e - p
+  pub is : bits_value s p w ≡ v
   pub to : p + w ≡ q
 
-pub number_read : {s : List ℕ} {e p q : ℕ} (w v : ℕ) → v < 2 ^ w → Stands s e p q (numberBits w v) → Numbered s e p q w v
-unfolding numberBits
+pub number_read : {s : List ℕ} {e p q : ℕ} (w v : ℕ) → v < 2 ^ w → Stands s e p q (number_bits w v) → Numbered s e p q w v
+unfolding number_bits
 number_read zero v l nil = record { room = omega arith; is = rw value_none (omega arith); to = omega arith }
 number_read {s} {e} {p} (suc w) v l (cons k b h) =
     let r = number_read w (v % 2 ^ w) (mod-lt v (pow_pos w)) (rw (← number-low w v) at h) in
@@ -320,35 +320,35 @@ give-go s e h k = rw (h, k)
 
 -- ---- the read of w bits
 
-bits-sound : (w : ℕ) {s : List ℕ} {e p q a : ℕ} → bits w s e p ≡ got a q → Stands s e p q (numberBits w a) × T (ltb a (2 ^ w))
-unfolding bits fromBits readBits
-bits-sound w {s} {e} {p} {q} {a} h = go (leb w 64) (leb w (bitsRemaining s (cursorAt e p))) refl h
+bits-sound : (w : ℕ) {s : List ℕ} {e p q a : ℕ} → bits w s e p ≡ got a q → Stands s e p q (number_bits w a) × T (ltb a (2 ^ w))
+unfolding bits from_bits read_bits
+bits-sound w {s} {e} {p} {q} {a} h = go (leb w 64) (leb w (bits_remaining s (cursor_at e p))) refl h
   where
-    go : (t u : Bool) → leb w (bitsRemaining s (cursorAt e p)) ≡ u
-        → fromBits p (if t then (if u then Value (bitsValue s p w) (cursorAt e (p + w)) else Refused (EndOfInput w (bitsRemaining s (cursorAt e p)))) else Refused (InvalidWidth w)) ≡ got a q
-        → Stands s e p q (numberBits w a) × T (ltb a (2 ^ w))
+    go : (t u : Bool) → leb w (bits_remaining s (cursor_at e p)) ≡ u
+        → from_bits p (if t then (if u then Value (bits_value s p w) (cursor_at e (p + w)) else Refused (EndOfInput w (bits_remaining s (cursor_at e p)))) else Refused (InvalidWidth w)) ≡ got a q
+        → Stands s e p q (number_bits w a) × T (ltb a (2 ^ w))
     go true true l f =
-        let k : w ≤ bitLimit s e - p = rw remaining-limit at (leb→le w (bitsRemaining s (cursorAt e p)) (T_of l)) in
-        rw (← same-what f, ← same-to f) (number-stands s e p w k, lt→ltb (bitsValue s p w) (2 ^ w) (value-range s p w))
+        let k : w ≤ bit_limit s e - p = rw remaining-limit at (leb→le w (bits_remaining s (cursor_at e p)) (T_of l)) in
+        rw (← same-what f, ← same-to f) (number-stands s e p w k, lt→ltb (bits_value s p w) (2 ^ w) (value-range s p w))
     go true false l f = never f
     go false u l f = never f
 
-bits-exact : (w : ℕ) {s : List ℕ} {e p q a : ℕ} → w ≤ 64 → T (ltb a (2 ^ w)) → Stands s e p q (numberBits w a) → bits w s e p ≡ got a q
-unfolding bits fromBits readBits
+bits-exact : (w : ℕ) {s : List ℕ} {e p q a : ℕ} → w ≤ 64 → T (ltb a (2 ^ w)) → Stands s e p q (number_bits w a) → bits w s e p ≡ got a q
+unfolding bits from_bits read_bits
 bits-exact w {s} {e} {p} {q} {a} h l k =
     let n = number_read w a (ltb→lt a (2 ^ w) l) k in
-    let r : w ≤ bitsRemaining s (cursorAt e p) = rw remaining-limit n.room in
-    simp (le-leb w 64 h, le-leb w (bitsRemaining s (cursorAt e p)) r, n.is, n.to)
+    let r : w ≤ bits_remaining s (cursor_at e p) = rw remaining-limit n.room in
+    simp (le-leb w 64 h, le-leb w (bits_remaining s (cursor_at e p)) r, n.is, n.to)
 
-pub bits-law : (w : ℕ) → w ≤ 64 → Codec (bits w) (numberBits w) (λ v. ltb v (2 ^ w))
+pub bits-law : (w : ℕ) → w ≤ 64 → Codec (bits w) (number_bits w) (λ v. ltb v (2 ^ w))
 bits-law w h = record { sound = bits-sound w; exact = λ t k. bits-exact w h t k }
 
 -- ---- one bit
 
-pub bit-zero : (m : ℕ) {s : List ℕ} {e p q : ℕ} → Stands s e p q (numberBits 1 m) → T (eqb m 0) → Stands s e p q (0 ∷ [])
-unfolding numberBits
-bit-zero m {s} {e} {p} {q} h t = subst (λ (n : ℕ). Stands s e p q (numberBits 1 n)) (eqb→eq m 0 t) h
+pub bit-zero : (m : ℕ) {s : List ℕ} {e p q : ℕ} → Stands s e p q (number_bits 1 m) → T (eqb m 0) → Stands s e p q (0 ∷ [])
+unfolding number_bits
+bit-zero m {s} {e} {p} {q} h t = subst (λ (n : ℕ). Stands s e p q (number_bits 1 n)) (eqb→eq m 0 t) h
 
-pub bit-one : (m : ℕ) {s : List ℕ} {e p q : ℕ} → Stands s e p q (numberBits 1 m) → m ≡ 1 → Stands s e p q (1 ∷ [])
-unfolding numberBits
-bit-one m {s} {e} {p} {q} h t = subst (λ (n : ℕ). Stands s e p q (numberBits 1 n)) t h
+pub bit-one : (m : ℕ) {s : List ℕ} {e p q : ℕ} → Stands s e p q (number_bits 1 m) → m ≡ 1 → Stands s e p q (1 ∷ [])
+unfolding number_bits
+bit-one m {s} {e} {p} {q} h t = subst (λ (n : ℕ). Stands s e p q (number_bits 1 n)) t h

@@ -4,8 +4,8 @@ use mathlib.Core.Bool.{true, false}
 use mathlib.Core.List.{List, [], ◌∷◌, ◌++◌}
 use Prim.Native.Nat.{ℕ, ◌-◌, ◌*◌, ◌^◌}
 use lib.ListN.{length}
-use Rattle.openjoc_bitio.specs.Bits.{bit_at, bitsValue, numberBits}
-use Rattle.openjoc_bitio.specs.Cursor.{bitLength, bitsRemaining, readBits}
+use Rattle.openjoc_bitio.specs.Bits.{bit_at, bits_value, number_bits}
+use Rattle.openjoc_bitio.specs.Cursor.{bit_length, bits_remaining, read_bits}
 use Rattle.openjoc_bitio.specs.declared.BitError.TheVariants.{EndOfInput}
 use Rattle.emdf_format.specs.declared.Optional.{Optional}
 use Rattle.emdf_format.specs.declared.Optional.TheVariants.{Absent, Present}
@@ -16,14 +16,14 @@ use Rattle.emdf_format.specs.declared.Refusal.TheVariants.{One, Two}
 use Rattle.emdf_format.specs.declared.JocValidationProfile.TheVariants.{EtsiStrict, ObservedVendorCompat}
 use Rattle.emdf_format.specs.declared.EditError.TheVariants.{DestinationTooShort}
 use Rattle.emdf_format.specs.declared.EditAnswer.TheVariants.{Written, Refused}
-use Rattle.emdf_format.specs.Syntax.{◌⨟◌, groupsBefore, variableField, countBefore, groups, escape, extendedField, extendedGroups, octetBits, flaggedField, presentField}
-use Rattle.emdf_format.specs.Contents.{◌&◌, iff, isPresent, isOne, whenPresent, up_to, hasAligned, hasPriority, presentAsRuled, writableConfig, writablePayload, writablePayloads, protectionLength, protectionCode, codable, writable, extensionBits, flaggedBits, presentBits, neededConfig, neededPayload, neededPayloads, neededBits, declared, sampleOffsetBits, codecDataBits, configBits, payloadBits, payloadsBits, protectionBits, containerBits, carrierBits, bitsNumber, bytes_of, carrier}
-use Rattle.emdf_format.specs.Reader.{and_then, ◌>>=◌, give, ask, choose, position, remaining, fromBits, bits, groupsFrom, variableBits, extendedValue, octets, present, flagged}
-use Rattle.emdf_format.specs.Reading.{reserved, sampleOffset, codecData, configControls, payloadConfig, Found, traceOf, payloadAfter, payloads, Container, padding, containerEnd, container, accepted, refusal, consumed, reading, payloadsOf, contentsOf}
-use Rattle.emdf_format.specs.Refusals.{refusalOf}
-use Rattle.emdf_format.specs.Calls.{nonEmdf, trailingData, class_of, classify}
-use Rattle.emdf_format.specs.Profile.{meets, table56, deviates, differ, marks, deviations, word, ones, passes, allows, allPass, meetsProfile}
-use Rattle.emdf_format.specs.Edits.{bodyEdit, dropEdit, withAt, withPayloads, cleared, change, placeExists, inRoom, stepTo, step, stepAnswer, written, stepFrom, edited}
+use Rattle.emdf_format.specs.Syntax.{◌⨟◌, groups_before, variable_field, count_before, groups, escape, extended_field, extended_groups, octet_bits, flagged_field, present_field}
+use Rattle.emdf_format.specs.Contents.{◌&◌, iff, is_present, is_one, when_present, up_to, has_aligned, has_priority, present_as_ruled, writable_config, writable_payload, writable_payloads, protection_length, protection_code, codable, writable, extension_bits, flagged_bits, present_bits, needed_config, needed_payload, needed_payloads, needed_bits, declared, sample_offset_bits, codec_data_bits, config_bits, payload_bits, payloads_bits, protection_bits, container_bits, carrier_bits, bits_number, bytes_of, carrier}
+use Rattle.emdf_format.specs.Reader.{and_then, ◌>>=◌, give, ask, choose, position, remaining, from_bits, bits, groups_from, variable_bits, extended_value, octets, present, flagged}
+use Rattle.emdf_format.specs.Reading.{reserved, sample_offset_of, codec_data, config_controls, payload_config, Found, trace_of, payload_after, payloads, Container, padding, container_end, container, accepted, refusal, consumed, reading, payloads_of, contents_of}
+use Rattle.emdf_format.specs.Refusals.{refusal_of}
+use Rattle.emdf_format.specs.Calls.{non_emdf, trailing_data, class_of, classify}
+use Rattle.emdf_format.specs.Profile.{meets, table56, deviates, differ, marks, deviations, word, ones, passes, allows, all_pass, meets_profile}
+use Rattle.emdf_format.specs.Edits.{body_edit, drop_edit, with_at, with_payloads, cleared, change, place_exists, in_room, step_to, step, step_answer, written, step_from, edited}
 
 abbrev A : List ℕ
 A = 0x58 ∷ 0x38 ∷ 0x00 ∷ 0x03 ∷ 0x00 ∷ 0x12 ∷ 0x94 ∷ []
@@ -55,11 +55,11 @@ discarded = record {
 abbrev in_a : Container
 in_a = record { key-id = 0; found = []; primary = 0xa5 ∷ []; secondary = [] }
 
-abbrev foundB : Found
-foundB = record { record_of = record { id = 1; config = discarded; trace = traceOf 37 42 47 56 64 }; body = 0xc3 ∷ [] }
+abbrev found_b : Found
+found_b = record { record_of = record { id = 1; config = discarded; trace = trace_of 37 42 47 56 64 }; body = 0xc3 ∷ [] }
 
 abbrev in_b : Container
-in_b = record { key-id = 0; found = foundB ∷ []; primary = 0xa5 ∷ []; secondary = [] }
+in_b = record { key-id = 0; found = found_b ∷ []; primary = 0xa5 ∷ []; secondary = [] }
 
 -- destinations with a byte to spare
 abbrev eight : List ℕ
@@ -70,34 +70,34 @@ eleven = 9 ∷ 9 ∷ 9 ∷ eight
 
 pub record Starred : Type 0 where
   pub A-reads : reading A ≡ accepted 7 in_a
-  pub A-written : carrier (contentsOf in_a) ≡ A
-  pub A-padding : 8 * declared (contentsOf in_a) - length (containerBits (contentsOf in_a)) ≡ 2
+  pub A-written : carrier (contents_of in_a) ≡ A
+  pub A-padding : 8 * declared (contents_of in_a) - length (container_bits (contents_of in_a)) ≡ 2
   pub B-reads : reading B ≡ accepted 11 in_b
-  pub B-written : carrier (contentsOf in_b) ≡ B
-  pub B-padding : 8 * declared (contentsOf in_b) - length (containerBits (contentsOf in_b)) ≡ 7
-  pub drop-answers : (edited (dropEdit 0) B eight).answer ≡ Written (record { 0 = 7 })
-  pub drop-writes : (edited (dropEdit 0) B eight).destination ≡ dropped ++ 9 ∷ []
-  pub drop-wants-room : (edited (dropEdit 0) B (9 ∷ [])).answer ≡ Refused (DestinationTooShort (record { 0 = 7 }))
-  pub body-answers : (edited (bodyEdit 0 []) B eleven).answer ≡ Written (record { 0 = 10 })
-  pub body-writes : (edited (bodyEdit 0 []) B eleven).destination ≡ emptied ++ 9 ∷ []
+  pub B-written : carrier (contents_of in_b) ≡ B
+  pub B-padding : 8 * declared (contents_of in_b) - length (container_bits (contents_of in_b)) ≡ 7
+  pub drop-answers : (edited (drop_edit 0) B eight).answer ≡ Written (record { 0 = 7 })
+  pub drop-writes : (edited (drop_edit 0) B eight).destination ≡ dropped ++ 9 ∷ []
+  pub drop-wants-room : (edited (drop_edit 0) B (9 ∷ [])).answer ≡ Refused (DestinationTooShort (record { 0 = 7 }))
+  pub body-answers : (edited (body_edit 0 []) B eleven).answer ≡ Written (record { 0 = 10 })
+  pub body-writes : (edited (body_edit 0 []) B eleven).destination ≡ emptied ++ 9 ∷ []
   pub ten-left : reading (0x58 ∷ 0x38 ∷ 0x00 ∷ 0x04 ∷ 0x00 ∷ 0x12 ∷ 0x94 ∷ 0x00 ∷ []) ≡ refusal (ExcessPadding 10)
-  pub ten-left-refusal : refusalOf (ExcessPadding 10) ≡ One 11 10
+  pub ten-left-refusal : refusal_of (ExcessPadding 10) ≡ One 11 10
   pub two_bytes : reading (0x58 ∷ 0x38 ∷ []) ≡ refusal (TruncatedContainer TruncatedPart.Header 4 2)
-  pub two-bytes-refusal : refusalOf (TruncatedContainer TruncatedPart.Header 4 2) ≡ Two 21 4 2
+  pub two-bytes-refusal : refusal_of (TruncatedContainer TruncatedPart.Header 4 2) ≡ Two 21 4 2
   pub two-bytes-missing : reading (0x58 ∷ 0x38 ∷ 0x00 ∷ 0x04 ∷ 0x00 ∷ 0x00 ∷ []) ≡ refusal (TruncatedContainer TruncatedPart.Body 4 2)
-  pub two-bytes-missing-refusal : refusalOf (TruncatedContainer TruncatedPart.Body 4 2) ≡ Two 1 4 2
-  pub one_byte : classify (0x58 ∷ []) ≡ nonEmdf
-  pub A-trailed : classify (A ++ 0x00 ∷ []) ≡ trailingData 7 8
-  pub three : variableField 2 3 ≡ 1 ∷ 1 ∷ 0 ∷ []
-  pub four : variableField 2 4 ≡ 0 ∷ 0 ∷ 1 ∷ 0 ∷ 0 ∷ 0 ∷ []
-  pub nineteen : variableField 2 19 ≡ 1 ∷ 1 ∷ 1 ∷ 1 ∷ 1 ∷ 0 ∷ []
-  pub id-30 : length (extendedField 5 30) ≡ 5
-  pub id-31 : extendedField 5 31 ≡ 1 ∷ 1 ∷ 1 ∷ 1 ∷ 1 ∷ 0 ∷ 0 ∷ 0 ∷ 0 ∷ 0 ∷ 0 ∷ []
-  pub size-255 : length (variableField 8 255) ≡ 9
-  pub size-256 : length (variableField 8 256) ≡ 18
+  pub two-bytes-missing-refusal : refusal_of (TruncatedContainer TruncatedPart.Body 4 2) ≡ Two 1 4 2
+  pub one_byte : classify (0x58 ∷ []) ≡ non_emdf
+  pub A-trailed : classify (A ++ 0x00 ∷ []) ≡ trailing_data 7 8
+  pub three : variable_field 2 3 ≡ 1 ∷ 1 ∷ 0 ∷ []
+  pub four : variable_field 2 4 ≡ 0 ∷ 0 ∷ 1 ∷ 0 ∷ 0 ∷ 0 ∷ []
+  pub nineteen : variable_field 2 19 ≡ 1 ∷ 1 ∷ 1 ∷ 1 ∷ 1 ∷ 0 ∷ []
+  pub id-30 : length (extended_field 5 30) ≡ 5
+  pub id-31 : extended_field 5 31 ≡ 1 ∷ 1 ∷ 1 ∷ 1 ∷ 1 ∷ 0 ∷ 0 ∷ 0 ∷ 0 ∷ 0 ∷ 0 ∷ []
+  pub size-255 : length (variable_field 8 255) ≡ 9
+  pub size-256 : length (variable_field 8 256) ≡ 18
 
 pub starred : Starred
-unfolding bit_at bitsValue numberBits bitLength bitsRemaining readBits ◌⨟◌ groupsBefore variableField countBefore groups escape extendedField extendedGroups octetBits flaggedField presentField ◌&◌ iff isPresent isOne whenPresent up_to hasAligned hasPriority presentAsRuled writableConfig writablePayload writablePayloads protectionLength protectionCode codable writable extensionBits flaggedBits presentBits neededConfig neededPayload neededPayloads neededBits declared sampleOffsetBits codecDataBits configBits payloadBits payloadsBits protectionBits containerBits carrierBits bitsNumber bytes_of carrier and_then ◌>>=◌ give ask choose position remaining fromBits bits groupsFrom variableBits extendedValue octets present flagged reserved sampleOffset codecData configControls payloadConfig payloadAfter payloads padding containerEnd container consumed reading payloadsOf class_of classify withAt withPayloads cleared change placeExists inRoom stepTo step stepAnswer written stepFrom edited
+unfolding bit_at bits_value number_bits bit_length bits_remaining read_bits ◌⨟◌ groups_before variable_field count_before groups escape extended_field extended_groups octet_bits flagged_field present_field ◌&◌ iff is_present is_one when_present up_to has_aligned has_priority present_as_ruled writable_config writable_payload writable_payloads protection_length protection_code codable writable extension_bits flagged_bits present_bits needed_config needed_payload needed_payloads needed_bits declared sample_offset_bits codec_data_bits config_bits payload_bits payloads_bits protection_bits container_bits carrier_bits bits_number bytes_of carrier and_then ◌>>=◌ give ask choose position remaining from_bits bits groups_from variable_bits extended_value octets present flagged reserved sample_offset_of codec_data config_controls payload_config payload_after payloads padding container_end container consumed reading payloads_of class_of classify with_at with_payloads cleared change place_exists in_room step_to step step_answer written step_from edited
 starred = record {
   A-reads = refl;
   A-written = refl;
@@ -172,12 +172,12 @@ pub record Mistakes : Type 0 where
   pub unequal : word (deviations (joined (Present 5)) (joined (Present 6))) ≡ 2 ^ 20
   pub equal : ones (deviations (joined (Present 5)) (joined (Present 5))) ≡ 0
   -- compat goes by values, and by the payload
-  pub oamd-unaligned : meetsProfile ObservedVendorCompat unaligned (joined (Present 5)) ≡ true
-  pub joc-unaligned : meetsProfile ObservedVendorCompat (joined (Present 5)) unaligned ≡ false
-  pub not-strict : meetsProfile EtsiStrict unaligned (joined (Present 5)) ≡ false
+  pub oamd-unaligned : meets_profile ObservedVendorCompat unaligned (joined (Present 5)) ≡ true
+  pub joc-unaligned : meets_profile ObservedVendorCompat (joined (Present 5)) unaligned ≡ false
+  pub not-strict : meets_profile EtsiStrict unaligned (joined (Present 5)) ≡ false
 
 pub mistakes : Mistakes
-unfolding bit_at bitsValue numberBits bitLength bitsRemaining readBits ◌⨟◌ groupsBefore variableField countBefore groups escape extendedField extendedGroups octetBits flaggedField presentField ◌&◌ iff isPresent isOne whenPresent up_to hasAligned hasPriority presentAsRuled writableConfig writablePayload writablePayloads protectionLength protectionCode codable writable extensionBits flaggedBits presentBits neededConfig neededPayload neededPayloads neededBits declared sampleOffsetBits codecDataBits configBits payloadBits payloadsBits protectionBits containerBits carrierBits bitsNumber bytes_of carrier and_then ◌>>=◌ give ask choose position remaining fromBits bits groupsFrom variableBits extendedValue octets present flagged reserved sampleOffset codecData configControls payloadConfig payloadAfter payloads padding containerEnd container consumed reading payloadsOf differ meets marks deviates table56 deviations word ones passes allows allPass meetsProfile
+unfolding bit_at bits_value number_bits bit_length bits_remaining read_bits ◌⨟◌ groups_before variable_field count_before groups escape extended_field extended_groups octet_bits flagged_field present_field ◌&◌ iff is_present is_one when_present up_to has_aligned has_priority present_as_ruled writable_config writable_payload writable_payloads protection_length protection_code codable writable extension_bits flagged_bits present_bits needed_config needed_payload needed_payloads needed_bits declared sample_offset_bits codec_data_bits config_bits payload_bits payloads_bits protection_bits container_bits carrier_bits bits_number bytes_of carrier and_then ◌>>=◌ give ask choose position remaining from_bits bits groups_from variable_bits extended_value octets present flagged reserved sample_offset_of codec_data config_controls payload_config payload_after payloads padding container_end container consumed reading payloads_of differ meets marks deviates table56 deviations word ones passes allows all_pass meets_profile
 mistakes = record {
   padding-length-first = refl;
   both-codes-first = refl;

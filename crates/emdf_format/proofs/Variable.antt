@@ -8,38 +8,38 @@ use lib.ListN.{length}
 use lib.Dec.{T, leb, ltb, leb→le, ltb→lt, lt→ltb, lit≤}
 use lib.Pow.{high, low, pow_pos, pow-add, shr_le}
 use lib.Pow.{split as pow-split}
-use Rattle.openjoc_bitio.specs.Bits.{numberBits}
+use Rattle.openjoc_bitio.specs.Bits.{number_bits}
 use Rattle.openjoc_bitio.proofs.Bits.{length-number}
-use Rattle.emdf_format.specs.Syntax.{◌⨟◌, groupsBefore, variableField, capacity, countBefore, groups}
+use Rattle.emdf_format.specs.Syntax.{◌⨟◌, groups_before, variable_field, capacity, count_before, groups}
 use Rattle.emdf_format.specs.Contents.{◌&◌}
-use Rattle.emdf_format.specs.Reader.{got, give, bits, groupsFrom, variableBits}
+use Rattle.emdf_format.specs.Reader.{got, give, bits, groups_from, variable_bits}
 use Rattle.emdf_format.proofs.Standing.{Stands, nil, join, parted, bits-law, bind_inv, bind-go, ask-inv, ask-go, choose-inv, choose-this, choose-that, step, asked, chosen, give-inv, bit-zero, bit-one, neqb→ne, both, length-then}
 
-before-zero : (f w : ℕ) → groupsBefore f w zero ≡ []
-unfolding groupsBefore
+before-zero : (f w : ℕ) → groups_before f w zero ≡ []
+unfolding groups_before
 before-zero zero w = refl
 before-zero (suc f) w = refl
 
 -- any fuel that is large enough gives the same
-pub before-fuel : (w f g k : ℕ) → k ≤ f → k ≤ g → groupsBefore f w k ≡ groupsBefore g w k
-unfolding groupsBefore
+pub before-fuel : (w f g k : ℕ) → k ≤ f → k ≤ g → groups_before f w k ≡ groups_before g w k
+unfolding groups_before
 before-fuel w zero g zero h i = sym (before-zero g w)
 before-fuel w zero g (suc u) h i = absurd (omega arith)
 before-fuel w (suc f) g zero h i = sym (before-zero g w)
 before-fuel w (suc f) zero (suc u) h i = absurd (omega arith)
 before-fuel w (suc f) (suc g) (suc u) h i =
-    ap (λ (x : List ℕ). x ⨟ (numberBits w (u % 2 ^ w) ⨟ (1 ∷ []))) (before-fuel w f g (u / 2 ^ w) (omega (arith, shr_le u w)) (omega (arith, shr_le u w)))
+    ap (λ (x : List ℕ). x ⨟ (number_bits w (u % 2 ^ w) ⨟ (1 ∷ []))) (before-fuel w f g (u / 2 ^ w) (omega (arith, shr_le u w)) (omega (arith, shr_le u w)))
 
 -- one group more
 before_more : (w k g : ℕ) → g < 2 ^ w
-    → groupsBefore (suc (k * 2 ^ w + g)) w (suc (k * 2 ^ w + g)) ≡ groupsBefore k w k ⨟ numberBits w g ⨟ (1 ∷ [])
-unfolding groupsBefore
+    → groups_before (suc (k * 2 ^ w + g)) w (suc (k * 2 ^ w + g)) ≡ groups_before k w k ⨟ number_bits w g ⨟ (1 ∷ [])
+unfolding groups_before
 before_more w k g h =
     let le : k ≤ k * 2 ^ w + g = omega (arith, mul-le-mul_left k (pow_pos w)) in
     rw (high k w h, low k w h, before-fuel w (k * 2 ^ w + g) k k le (le_refl k))
 
-field-last : (w k g : ℕ) → g < 2 ^ w → variableField w (k * 2 ^ w + g) ≡ groupsBefore k w k ⨟ numberBits w g ⨟ (0 ∷ [])
-unfolding variableField
+field-last : (w k g : ℕ) → g < 2 ^ w → variable_field w (k * 2 ^ w + g) ≡ groups_before k w k ⨟ number_bits w g ⨟ (0 ∷ [])
+unfolding variable_field
 field-last w k g h = rw (high k w h, low k w h)
 
 -- one group more
@@ -62,15 +62,15 @@ next_small w j k g h l = rw capacity-step (omega (arith, mul-le-mul_right (2 ^ w
 -- ---- reading finds what is written
 
 pub record Field (w lim : ℕ) (s : List ℕ) (e p q v : ℕ) : Type 0 where
-  pub stands : Stands s e p q (variableField w v)
+  pub stands : Stands s e p q (variable_field w v)
   pub small : v < capacity w lim
   pub fits : v < 2 ^ 64
 
 module _ (w lim : ℕ) (wide : w ≤ 64) where
   -- after j groups the start is k * 2^w, and they stand before it
   groups-sound : (n j k : ℕ) {s : List ℕ} {e p₀ p q v : ℕ} → j + n ≡ lim → k ≤ capacity w j
-      → Stands s e p₀ p (groupsBefore k w k) → groupsFrom w lim n (k * 2 ^ w) s e p ≡ got v q → Field w lim s e p₀ q v
-  unfolding groupsFrom
+      → Stands s e p₀ p (groups_before k w k) → groups_from w lim n (k * 2 ^ w) s e p ≡ got v q → Field w lim s e p₀ q v
+  unfolding groups_from
   groups-sound zero j k jn kt b h = asked (ask-inv h) λ no₁ t. absurd no₁
   groups-sound (suc n) j k {s} {e} {p₀} {p} {q} {v} jn kt b h =
       step (bits-law w wide) (bind_inv h) λ g p₁ sg lg t₁.
@@ -98,8 +98,8 @@ module _ (w lim : ℕ) (wide : w ≤ 64) where
 pub div-le : (u w t : ℕ) → u < t * 2 ^ w + 2 ^ w → u / 2 ^ w ≤ t
 div-le u w t h = let l : u < suc t * 2 ^ w = rw suc-mul h in omega (arith, (div-lt_iff_lt-mul (pow_pos w)).1 l)
 
-pub before-least : (f w g k : ℕ) → k ≤ capacity w g → countBefore f w k ≤ g
-unfolding countBefore capacity
+pub before-least : (f w g k : ℕ) → k ≤ capacity w g → count_before f w k ≤ g
+unfolding count_before capacity
 before-least zero w g k h = omega arith
 before-least (suc f) w g zero h = omega arith
 before-least (suc f) w zero (suc u) h = absurd (omega arith)
@@ -107,11 +107,11 @@ before-least (suc f) w (suc g) (suc u) h = omega (arith, before-least f w g (u /
 
 module _ (w lim : ℕ) (wide : w ≤ 64) where
   -- one group with more set
-  one_more : (n a g : ℕ) {s : List ℕ} {e p q : ℕ} → g < 2 ^ w → (a + g) * 2 ^ w + 2 ^ w < 2 ^ 64 → Stands s e p q (numberBits w g ⨟ (1 ∷ []))
-      → groupsFrom w lim (suc (suc n)) a s e p ≡ groupsFrom w lim (suc n) ((a + g) * 2 ^ w + 2 ^ w) s e q
-  unfolding groupsFrom numberBits
+  one_more : (n a g : ℕ) {s : List ℕ} {e p q : ℕ} → g < 2 ^ w → (a + g) * 2 ^ w + 2 ^ w < 2 ^ 64 → Stands s e p q (number_bits w g ⨟ (1 ∷ []))
+      → groups_from w lim (suc (suc n)) a s e p ≡ groups_from w lim (suc n) ((a + g) * 2 ^ w + 2 ^ w) s e q
+  unfolding groups_from number_bits
   one_more n a g {s} {e} {p} {q} gl nl h =
-      let (p₁, sg, s1) = parted (numberBits w g) (1 ∷ []) h in
+      let (p₁, sg, s1) = parted (number_bits w g) (1 ∷ []) h in
       let sum : a + g < 2 ^ 64 = omega (arith, mul-le-mul_left (a + g) (pow_pos w)) in
       bind-go _ _ ((bits-law w wide).exact (lt→ltb g (2 ^ w) gl) sg)
       (ask-go _ _ _ (lt→ltb (a + g) (2 ^ 64) sum)
@@ -120,30 +120,30 @@ module _ (w lim : ℕ) (wide : w ≤ 64) where
       (ask-go _ _ _ (lt→ltb 0 (suc n) (omega arith))
       (ask-go _ _ _ (lt→ltb ((a + g) * 2 ^ w + 2 ^ w) (2 ^ 64) nl) refl)))))
 
-  the_last : (n a g : ℕ) {s : List ℕ} {e p q : ℕ} → g < 2 ^ w → a + g < 2 ^ 64 → Stands s e p q (numberBits w g ⨟ (0 ∷ []))
-      → groupsFrom w lim (suc n) a s e p ≡ got (a + g) q
-  unfolding groupsFrom numberBits give
+  the_last : (n a g : ℕ) {s : List ℕ} {e p q : ℕ} → g < 2 ^ w → a + g < 2 ^ 64 → Stands s e p q (number_bits w g ⨟ (0 ∷ []))
+      → groups_from w lim (suc n) a s e p ≡ got (a + g) q
+  unfolding groups_from number_bits give
   the_last n a g {s} {e} {p} {q} gl sum h =
-      let (p₁, sg, s0) = parted (numberBits w g) (0 ∷ []) h in
+      let (p₁, sg, s0) = parted (number_bits w g) (0 ∷ []) h in
       bind-go _ _ ((bits-law w wide).exact (lt→ltb g (2 ^ w) gl) sg)
       (ask-go _ _ _ (lt→ltb (a + g) (2 ^ 64) sum)
       (bind-go _ _ ((bits-law 1 (lit≤ tt)).exact {a = 0} tt s0)
       (choose-this _ _ _ tt refl)))
 
-  -- the groupsFrom groupsBefore the last: f is the writer's fuel, n what is remaining of the bitLimit
-  all_more : (f k n : ℕ) {s : List ℕ} {e p q : ℕ} → k ≤ f → k * 2 ^ w < 2 ^ 64 → Stands s e p q (groupsBefore f w k)
-      → groupsFrom w lim (countBefore f w k + suc n) 0 s e p ≡ groupsFrom w lim (suc n) (k * 2 ^ w) s e q
-  unfolding groupsBefore countBefore
+  -- the groups_from groups_before the last: f is the writer's fuel, n what is remaining of the bit_limit
+  all_more : (f k n : ℕ) {s : List ℕ} {e p q : ℕ} → k ≤ f → k * 2 ^ w < 2 ^ 64 → Stands s e p q (groups_before f w k)
+      → groups_from w lim (count_before f w k + suc n) 0 s e p ≡ groups_from w lim (suc n) (k * 2 ^ w) s e q
+  unfolding groups_before count_before
   all_more zero zero n kf kl nil = rw (zero-add, zero-mul)
   all_more zero (suc k) n kf kl h = absurd (omega arith)
   all_more (suc f) zero n kf kl nil = rw (zero-add, zero-mul)
   all_more (suc f) (suc u) n {s} {e} {p} {q} kf kl h =
-      let (p₁, sb, sg) = parted (groupsBefore f w (u / 2 ^ w)) (numberBits w (u % 2 ^ w) ⨟ (1 ∷ [])) h in
+      let (p₁, sb, sg) = parted (groups_before f w (u / 2 ^ w)) (number_bits w (u % 2 ^ w) ⨟ (1 ∷ [])) h in
       let kl' : u * 2 ^ w + 2 ^ w < 2 ^ 64 = rw suc-mul at kl in
       let e₁ : u / 2 ^ w * 2 ^ w + u % 2 ^ w ≡ u = pow-split u w in
       let ul : u / 2 ^ w * 2 ^ w < 2 ^ 64 = omega (arith, mul-le-mul_left u (pow_pos w)) in
       let nl : (u / 2 ^ w * 2 ^ w + u % 2 ^ w) * 2 ^ w + 2 ^ w < 2 ^ 64 = rw e₁ kl' in
-      rw (suc-add, ← add-suc (countBefore f w (u / 2 ^ w)) (suc n))
+      rw (suc-add, ← add-suc (count_before f w (u / 2 ^ w)) (suc n))
       (all_more f (u / 2 ^ w) (suc n) (omega (arith, shr_le u w)) ul sb
       ∙ one_more n (u / 2 ^ w * 2 ^ w) (u % 2 ^ w) (mod-lt u (pow_pos w)) nl sg
       ∙ rw (e₁, suc-mul))
@@ -151,45 +151,45 @@ module _ (w lim : ℕ) (wide : w ≤ 64) where
 width-ok : (w lim : ℕ) → T (leb 1 w & leb w 63 & leb 1 lim) → w ≤ 64
 width-ok w lim l = omega (arith, leb→le w 63 (both (both l).right).left)
 
-pub field-sound : (w lim : ℕ) {s : List ℕ} {e p q v : ℕ} → variableBits w lim s e p ≡ got v q → Field w lim s e p q v
-unfolding variableBits groupsBefore
+pub field-sound : (w lim : ℕ) {s : List ℕ} {e p q v : ℕ} → variable_bits w lim s e p ≡ got v q → Field w lim s e p q v
+unfolding variable_bits groups_before
 field-sound w lim {s} {e} {p} h =
     asked (ask-inv h) λ l t. groups-sound w lim (width-ok w lim l) lim 0 0 {p = p} (zero-add lim) (omega arith) nil (rw zero-mul t)
 
 pub field-exact : (w lim : ℕ) {s : List ℕ} {e p q v : ℕ} → T (leb 1 w & leb w 63 & leb 1 lim) → v < capacity w lim → v < 2 ^ 64
-    → Stands s e p q (variableField w v) → variableBits w lim s e p ≡ got v q
-unfolding variableBits variableField capacity
+    → Stands s e p q (variable_field w v) → variable_bits w lim s e p ≡ got v q
+unfolding variable_bits variable_field capacity
 field-exact w zero l small word h = absurd (omega arith)
 field-exact w (suc g) {s} {e} {p} {q} {v} l small word h =
     let k : ℕ = v / 2 ^ w in
-    let (p₁, sb, sg) = parted (groupsBefore k w k) (numberBits w (v % 2 ^ w) ⨟ (0 ∷ [])) h in
-    let c : ℕ = countBefore k w k in
+    let (p₁, sb, sg) = parted (groups_before k w k) (number_bits w (v % 2 ^ w) ⨟ (0 ∷ [])) h in
+    let c : ℕ = count_before k w k in
     let cl : c ≤ g = before-least k w g k (div-le v w (capacity w g) (rw capacity-step at small)) in
     let e₀ : suc g ≡ c + suc (g - c) = omega arith in
     let e₁ : k * 2 ^ w + v % 2 ^ w ≡ v = pow-split v w in
     let kl : k * 2 ^ w < 2 ^ 64 = omega arith in
     let kv : k * 2 ^ w + v % 2 ^ w < 2 ^ 64 = omega arith in
     ask-go _ _ _ l
-    (ap (λ (n : ℕ). groupsFrom w (suc g) n 0 s e p) e₀
+    (ap (λ (n : ℕ). groups_from w (suc g) n 0 s e p) e₀
     ∙ all_more w (suc g) (width-ok w (suc g) l) k k (g - c) (le_refl k) kl sb
     ∙ the_last w (suc g) (width-ok w (suc g) l) (g - c) (k * 2 ^ w) (v % 2 ^ w) (mod-lt v (pow_pos w)) kv sg
     ∙ ap (λ (n : ℕ). got n q) e₁)
 
 -- ---- how many groups
 
-length_before : (f w k : ℕ) → length (groupsBefore f w k) ≡ (w + 1) * countBefore f w k
-unfolding groupsBefore countBefore
+length_before : (f w k : ℕ) → length (groups_before f w k) ≡ (w + 1) * count_before f w k
+unfolding groups_before count_before
 length_before zero w k = omega arith
 length_before (suc f) w zero = omega arith
 length_before (suc f) w (suc u) = simp (length-then, length-number) (omega (arith, length_before f w (u / 2 ^ w)))
 
 -- the field takes (w + 1) × groups bits
-pub length-field : (w v : ℕ) → length (variableField w v) ≡ (w + 1) * groups w v
-unfolding variableField groups
+pub length-field : (w v : ℕ) → length (variable_field w v) ≡ (w + 1) * groups w v
+unfolding variable_field groups
 length-field w v = simp (length-then, length-number) (omega (arith, length_before (v / 2 ^ w) w (v / 2 ^ w)))
 
-before-holds : (f w k : ℕ) → k ≤ f → k ≤ capacity w (countBefore f w k)
-unfolding countBefore
+before-holds : (f w k : ℕ) → k ≤ f → k ≤ capacity w (count_before f w k)
+unfolding count_before
 before-holds zero w k h = omega arith
 before-holds (suc f) w zero h = omega arith
 before-holds (suc f) w (suc u) h =

@@ -1,13 +1,12 @@
 -- Which of the payloads of its id a payload is: its ordinal, from 1 in the carrier's order. Assumes nothing.
-use Rattle.std.specs.Prelude.{◌≡◌, List, [], ◌∷◌, ◌↔◌, ℕ, suc, ◌≤◌, ◌<◌, get_or, take, eqb}
+use Rattle.std.specs.Prelude.{◌≡◌, List, [], ◌∷◌, ◌↔◌, ℕ, suc, ◌≤◌, ◌<◌, get_or, take, eqb, if◌then◌else◌}
 use Rattle.std.proofs.Math.Option.{some}
 use Rattle.std.proofs.Math.ListN.{get_elem?}
-use Rattle.openjoc_bitio.specs.Choice.{if◌then◌else◌}
 use Rattle.emdf_format.specs.Types.{PayloadRow, FindAnswer}
 use Rattle.emdf_format.specs.declared.FindError.TheVariants as FindError
 use Rattle.emdf_format.specs.declared.FindAnswer.TheVariants as FindAnswer
 use Rattle.emdf_format.specs.Contents.{Payload, ◌&◌}
-use Rattle.emdf_format.specs.Reading.{Found, Container, Reading, accepted, refusal, payloadsOf}
+use Rattle.emdf_format.specs.Reading.{Found, Container, Reading, accepted, refusal, payloads_of}
 
 -- how many of these ids are x
 unfoldable pub occurrences : ℕ → List ℕ → ℕ
@@ -15,8 +14,8 @@ occurrences x [] = 0
 occurrences x (y ∷ ys) = if eqb y x then suc (occurrences x ys) else occurrences x ys
 
 -- at place k: how many of the ids up to it, itself among them, are the same
-unfoldable pub ordinalAt : List ℕ → ℕ → ℕ
-ordinalAt ids k = occurrences (get_or ids k 0) (take (suc k) ids)
+unfoldable pub ordinal_at : List ℕ → ℕ → ℕ
+ordinal_at ids k = occurrences (get_or ids k 0) (take (suc k) ids)
 
 unfoldable pub ids_of : List Payload → List ℕ
 ids_of [] = []
@@ -27,10 +26,10 @@ ids_of (x ∷ xs) = x.id ∷ ids_of xs
 -- from place k on, in a carrier with these ids
 unfoldable pub rows_from : List ℕ → ℕ → List Found → List PayloadRow
 rows_from ids k [] = []
-rows_from ids k (x ∷ xs) = record { payload = x.record_of; ordinal = ordinalAt ids k } ∷ rows_from ids (suc k) xs
+rows_from ids k (x ∷ xs) = record { payload = x.record_of; ordinal = ordinal_at ids k } ∷ rows_from ids (suc k) xs
 
 abbrev pub ids_in : List Found → List ℕ
-ids_in xs = ids_of (payloadsOf xs)
+ids_in xs = ids_of (payloads_of xs)
 
 unfoldable pub rows_of : List Found → List PayloadRow
 rows_of xs = rows_from (ids_in xs) 0 xs
@@ -42,29 +41,29 @@ pub record Numbered (rs : List PayloadRow) (k x o : ℕ) : Type 0 where
   pub id : row.payload.id ≡ x
   pub ordinal : row.ordinal ≡ o
 
-unfoldable pub rowIds : List PayloadRow → List ℕ
-rowIds [] = []
-rowIds (r ∷ rs) = r.payload.id ∷ rowIds rs
+unfoldable pub row_ids : List PayloadRow → List ℕ
+row_ids [] = []
+row_ids (r ∷ rs) = r.payload.id ∷ row_ids rs
 
 -- the invariant of a table's first n rows: a row's ordinal is how many rows up to it, itself among them, have its id. So an id's
 -- ordinals are from 1, in the carrier's order, without gaps
 pub record OrdinalsInOrder (rs : List PayloadRow) (n : ℕ) : Type 0 where
-  pub counted : (k x o : ℕ) → k < n → Numbered rs k x o → o ≡ occurrences x (rowIds (take (suc k) rs))
+  pub counted : (k x o : ℕ) → k < n → Numbered rs k x o → o ≡ occurrences x (row_ids (take (suc k) rs))
   pub from_one : (k x o : ℕ) → k < n → Numbered rs k x o → 1 ≤ o
   pub without-gaps : (k x o : ℕ) → k < n → Numbered rs k x (suc (suc o)) → (j : ℕ) × (j < k) × Numbered rs j x (suc o)
 
 -- ---- a payload by its id and ordinal
 
 -- the place, where the first of these rows is at place k
-unfoldable pub findIn : ℕ → ℕ → ℕ → List PayloadRow → FindAnswer
-findIn x o k [] = FindAnswer.Refused FindError.NoSuchOrdinal
-findIn x o k (r ∷ rs) = if eqb r.payload.id x & eqb r.ordinal o then FindAnswer.Place k else findIn x o (suc k) rs
+unfoldable pub find_in : ℕ → ℕ → ℕ → List PayloadRow → FindAnswer
+find_in x o k [] = FindAnswer.Refused FindError.NoSuchOrdinal
+find_in x o k (r ∷ rs) = if eqb r.payload.id x & eqb r.ordinal o then FindAnswer.Place k else find_in x o (suc k) rs
 
-unfoldable pub findPayload : ℕ → ℕ → Reading → FindAnswer
-findPayload x o (accepted n c) = findIn x o 0 (rows_of c.found)
-findPayload x o (refusal why) = FindAnswer.Refused (FindError.Emdf why)
+unfoldable pub find_payload : ℕ → ℕ → Reading → FindAnswer
+find_payload x o (accepted n c) = find_in x o 0 (rows_of c.found)
+find_payload x o (refusal why) = FindAnswer.Refused (FindError.Emdf why)
 
 -- of an accepted carrier: a place is answered exactly where its row has that id and ordinal, and 24 exactly where no row has
 pub record FindsExactly : Type 0 where
-  pub found : (n : ℕ) (c : Container) (x o k : ℕ) → (findPayload x o (accepted n c) ≡ FindAnswer.Place k) ↔ Numbered (rows_of c.found) k x o
-  pub missing : (n : ℕ) (c : Container) (x o : ℕ) → (findPayload x o (accepted n c) ≡ FindAnswer.Refused FindError.NoSuchOrdinal) ↔ ((k : ℕ) → Numbered (rows_of c.found) k x o → ⊥)
+  pub found : (n : ℕ) (c : Container) (x o k : ℕ) → (find_payload x o (accepted n c) ≡ FindAnswer.Place k) ↔ Numbered (rows_of c.found) k x o
+  pub missing : (n : ℕ) (c : Container) (x o : ℕ) → (find_payload x o (accepted n c) ≡ FindAnswer.Refused FindError.NoSuchOrdinal) ↔ ((k : ℕ) → Numbered (rows_of c.found) k x o → ⊥)

@@ -1,8 +1,7 @@
 -- The verdict of TS 103 420, as the original has it: table 55 (which payloads there are), table 56 (their settings), and the two
 -- policies. Assumes nothing.
-use Rattle.std.specs.Prelude.{Bool, true, false, not, ◌||◌, List, [], ◌∷◌, ◌++◌, ℕ, suc, ◌+◌, ◌*◌, eqb}
+use Rattle.std.specs.Prelude.{Bool, true, false, not, ◌||◌, List, [], ◌∷◌, ◌++◌, ℕ, suc, ◌+◌, ◌*◌, eqb, if◌then◌else◌}
 use Rattle.std.proofs.Math.Option.{Option, none, some}
-use Rattle.openjoc_bitio.specs.Choice.{if◌then◌else◌}
 use Rattle.emdf_format.specs.Types.{Optional, EmdfPayloadConfig, JocProfileField, PlacedConfig, JocRole, JocProfileValue, AllowedDeviation, JocValidationProfile, JocValidationStatus, JocProfileAnswer}
 use Rattle.emdf_format.specs.declared.Optional.TheVariants.{Absent, Present}
 use Rattle.emdf_format.specs.declared.JocProfileField.TheVariants.{SampleOffset, Duration, GroupId, CodecDataPresent, DiscardUnknownPayload, PayloadFrameAligned, CreateDuplicate, RemoveDuplicate, Priority, ProcessingAllowed}
@@ -13,22 +12,22 @@ use Rattle.emdf_format.specs.declared.JocValidationProfile.TheVariants.{EtsiStri
 use Rattle.emdf_format.specs.declared.JocValidationStatus.TheVariants.{NormativeCompliant, AcceptedWithDeviation}
 use Rattle.emdf_format.specs.declared.JocProfileError.TheVariants.{Emdf, PayloadCount, Configuration}
 use Rattle.emdf_format.specs.declared.JocProfileAnswer.TheVariants.{Accepted, Refused}
-use Rattle.emdf_format.specs.Contents.{◌&◌, isPresent}
-use Rattle.emdf_format.specs.Reading.{Found, Reading, accepted, refusal, reading, contentsOf}
-use Rattle.emdf_format.specs.Groups.{largestGroups}
+use Rattle.emdf_format.specs.Contents.{◌&◌, is_present}
+use Rattle.emdf_format.specs.Reading.{Found, Reading, accepted, refusal, reading, contents_of}
+use Rattle.emdf_format.specs.Groups.{largest_groups_of}
 
 -- ---- table 56, and the sample offset and frame alignment that the original takes it to imply
 
 unfoldable pub meets : JocProfileValue → Optional → Bool
-meets JocProfileValue.Absent o = not (isPresent o)
-meets JocProfileValue.Present o = isPresent o
+meets JocProfileValue.Absent o = not (is_present o)
+meets JocProfileValue.Present o = is_present o
 meets (JocProfileValue.Unsigned n) Absent = false
 meets (JocProfileValue.Unsigned n) (Present v) = eqb v n
 
 -- let pass on OAMD alone
-abbrev pub onOamd : JocRole → AllowedDeviation → AllowedDeviation
-onOamd Oamd x = x
-onOamd Joc x = Never
+abbrev pub on_oamd : JocRole → AllowedDeviation → AllowedDeviation
+on_oamd Oamd x = x
+on_oamd Joc x = Never
 
 pub record Entry : Type 0 where
   pub field : JocProfileField
@@ -47,11 +46,11 @@ table56 r t =
     ∷ entry GroupId JocProfileValue.Present Never t.group_id
     ∷ entry CodecDataPresent (JocProfileValue.Unsigned 1) (Only (Present 0)) (Present t.codec_data_present)
     ∷ entry DiscardUnknownPayload (JocProfileValue.Unsigned 0) Never (Present t.discard_unknown_payload)
-    ∷ entry PayloadFrameAligned (JocProfileValue.Unsigned 1) (onOamd r (Only (Present 0))) t.payload_frame_aligned
-    ∷ entry CreateDuplicate (JocProfileValue.Unsigned 0) (onOamd r (Only Absent)) t.create_duplicate
-    ∷ entry RemoveDuplicate (JocProfileValue.Unsigned 0) (onOamd r (Only Absent)) t.remove_duplicate
-    ∷ entry Priority (JocProfileValue.Unsigned 0) (onOamd r (Only Absent)) t.priority
-    ∷ entry ProcessingAllowed (JocProfileValue.Unsigned 0) (onOamd r (Only Absent)) t.processing_allowed
+    ∷ entry PayloadFrameAligned (JocProfileValue.Unsigned 1) (on_oamd r (Only (Present 0))) t.payload_frame_aligned
+    ∷ entry CreateDuplicate (JocProfileValue.Unsigned 0) (on_oamd r (Only Absent)) t.create_duplicate
+    ∷ entry RemoveDuplicate (JocProfileValue.Unsigned 0) (on_oamd r (Only Absent)) t.remove_duplicate
+    ∷ entry Priority (JocProfileValue.Unsigned 0) (on_oamd r (Only Absent)) t.priority
+    ∷ entry ProcessingAllowed (JocProfileValue.Unsigned 0) (on_oamd r (Only Absent)) t.processing_allowed
     ∷ []
 
 unfoldable pub deviates : Entry → Bool
@@ -91,31 +90,31 @@ allows (Only x) o = not (differ x o)
 unfoldable pub passes : Entry → Bool
 passes x = meets x.wanted x.found || allows x.allowed x.found
 
-unfoldable pub allPass : List Entry → Bool
-allPass [] = true
-allPass (x ∷ xs) = passes x & allPass xs
+unfoldable pub all_pass : List Entry → Bool
+all_pass [] = true
+all_pass (x ∷ xs) = passes x & all_pass xs
 
 -- strict lets no deviation pass; compat goes by the values, and never lets unequal group ids pass
-unfoldable pub meetsProfile : JocValidationProfile → EmdfPayloadConfig → EmdfPayloadConfig → Bool
-meetsProfile EtsiStrict o j = eqb (ones (deviations o j)) 0
-meetsProfile ObservedVendorCompat o j =
-    allPass (table56 Oamd o) & allPass (table56 Joc j) & not (differ o.group_id j.group_id)
+unfoldable pub meets_profile : JocValidationProfile → EmdfPayloadConfig → EmdfPayloadConfig → Bool
+meets_profile EtsiStrict o j = eqb (ones (deviations o j)) 0
+meets_profile ObservedVendorCompat o j =
+    all_pass (table56 Oamd o) & all_pass (table56 Joc j) & not (differ o.group_id j.group_id)
 
 -- ---- table 55: one OAMD payload, id 11, and one JOC payload, id 14
 
-unfoldable pub countId : ℕ → List Found → ℕ
-countId id [] = 0
-countId id (x ∷ xs) = (if eqb x.record_of.id id then 1 else 0) + countId id xs
+unfoldable pub count_id : ℕ → List Found → ℕ
+count_id id [] = 0
+count_id id (x ∷ xs) = (if eqb x.record_of.id id then 1 else 0) + count_id id xs
 
 -- the first payload with an id, the list's first at place k
-unfoldable pub firstId : ℕ → ℕ → List Found → Option PlacedConfig
-firstId id k [] = none
-firstId id k (x ∷ xs) =
-    if eqb x.record_of.id id then some (record { place = k; config = x.record_of.config }) else firstId id (suc k) xs
+unfoldable pub first_id : ℕ → ℕ → List Found → Option PlacedConfig
+first_id id k [] = none
+first_id id k (x ∷ xs) =
+    if eqb x.record_of.id id then some (record { place = k; config = x.record_of.config }) else first_id id (suc k) xs
 
 -- the payload with an id, where there is just one
-unfoldable pub onlyId : ℕ → List Found → Option PlacedConfig
-onlyId id xs = if eqb (countId id xs) 1 then firstId id 0 xs else none
+unfoldable pub only_id : ℕ → List Found → Option PlacedConfig
+only_id id xs = if eqb (count_id id xs) 1 then first_id id 0 xs else none
 
 -- ---- the verdict
 
@@ -126,7 +125,7 @@ status n = if eqb n 0 then NormativeCompliant else AcceptedWithDeviation
 unfoldable pub judge : JocValidationProfile → ℕ → PlacedConfig → PlacedConfig → JocProfileAnswer
 judge profile most o j =
     let ds : List Bool = deviations o.config j.config in
-    if meetsProfile profile o.config j.config
+    if meets_profile profile o.config j.config
     then Accepted (record { oamd = o.place; joc = j.place; deviations = word ds; status = status (ones ds); largest_groups = most })
     else Refused (Configuration (word ds) (ones ds))
 
@@ -136,11 +135,11 @@ judged profile most (some o) (some j) otherwise = judge profile most o j
 judged profile most none j otherwise = otherwise
 judged profile most (some o) none otherwise = otherwise
 
-unfoldable pub verdictOn : JocValidationProfile → Reading → JocProfileAnswer
-verdictOn profile (accepted n c) =
-    judged profile (largestGroups (contentsOf c)) (onlyId 11 c.found) (onlyId 14 c.found)
-    (Refused (PayloadCount (countId 11 c.found) (countId 14 c.found)))
-verdictOn profile (refusal why) = Refused (Emdf why)
+unfoldable pub verdict_on : JocValidationProfile → Reading → JocProfileAnswer
+verdict_on profile (accepted n c) =
+    judged profile (largest_groups_of (contents_of c)) (only_id 11 c.found) (only_id 14 c.found)
+    (Refused (PayloadCount (count_id 11 c.found) (count_id 14 c.found)))
+verdict_on profile (refusal why) = Refused (Emdf why)
 
 unfoldable pub verdict : JocValidationProfile → List ℕ → JocProfileAnswer
-verdict profile s = verdictOn profile (reading s)
+verdict profile s = verdict_on profile (reading s)

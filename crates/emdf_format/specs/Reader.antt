@@ -1,7 +1,7 @@
 -- Readers: what is found from position p of bytes s, up to the end e, or why it is refused; and the fields of Annex H as readers,
 -- each question in its place. Assumes nothing.
 use Rattle.std.specs.Prelude.{Bool, true, false, List, [], ◌∷◌, ℕ, zero, suc, ◌+◌, ◌*◌, ◌^◌, leb, ltb, eqb}
-use Rattle.openjoc_bitio.specs.Cursor.{bitsRemaining, readBits}
+use Rattle.openjoc_bitio.specs.Cursor.{bits_remaining, read_bits}
 use Rattle.openjoc_bitio.specs.declared.BitCursor.{BitCursor}
 use Rattle.openjoc_bitio.specs.declared.BitsAnswer.{BitsAnswer}
 use Rattle.openjoc_bitio.specs.declared.BitsAnswer.TheVariants.{Value, Refused}
@@ -39,51 +39,51 @@ unfoldable pub choose : {A : Type 0} → Bool → Reader A → Reader A → Read
 choose true x y = x
 choose false x y = y
 
-abbrev pub cursorAt : ℕ → ℕ → BitCursor
-cursorAt e p = record { position = p; end = e }
+abbrev pub cursor_at : ℕ → ℕ → BitCursor
+cursor_at e p = record { position = p; end = e }
 
 unfoldable pub position : Reader ℕ
 position s e p = got p p
 
 unfoldable pub remaining : Reader ℕ
-remaining s e p = got (bitsRemaining s (cursorAt e p)) p
+remaining s e p = got (bits_remaining s (cursor_at e p)) p
 
 -- w bits as a number: questions 3 and 4
-unfoldable pub fromBits : ℕ → BitsAnswer → Read ℕ
-fromBits p (Value v c) = got v c.position
-fromBits p (Refused why) = refused (Bit why) p
+unfoldable pub from_bits : ℕ → BitsAnswer → Read ℕ
+from_bits p (Value v c) = got v c.position
+from_bits p (Refused why) = refused (Bit why) p
 
 unfoldable pub bits : ℕ → Reader ℕ
-bits w s e p = fromBits p (readBits s (cursorAt e p) w)
+bits w s e p = from_bits p (read_bits s (cursor_at e p) w)
 
 -- ---- variable_bits, clause H.2.1.2.1
 
 -- at most n groups more, from a start: 7 where the sum passes 64 bits, 6 where the last one allowed is not the last, 7 where the
 -- next start passes 64 bits
-unfoldable pub groupsFrom : ℕ → ℕ → ℕ → ℕ → Reader ℕ
-groupsFrom w limit zero start = do
+unfoldable pub groups_from : ℕ → ℕ → ℕ → ℕ → Reader ℕ
+groups_from w limit zero start = do
   _ ← ask false (VariableBitsGroupLimit w limit)
   give start
-groupsFrom w limit (suc n) start = do
+groups_from w limit (suc n) start = do
   value ← bits w
   _ ← ask (ltb (start + value) (2 ^ 64)) ValueOverflow
   more ← bits 1
   choose (eqb more 0) (give (start + value)) do
     _ ← ask (ltb 0 n) (VariableBitsGroupLimit w limit)
     _ ← ask (ltb ((start + value) * 2 ^ w + 2 ^ w) (2 ^ 64)) ValueOverflow
-    groupsFrom w limit n ((start + value) * 2 ^ w + 2 ^ w)
+    groups_from w limit n ((start + value) * 2 ^ w + 2 ^ w)
 
-unfoldable pub variableBits : ℕ → ℕ → Reader ℕ
-variableBits w limit = do
+unfoldable pub variable_bits : ℕ → ℕ → Reader ℕ
+variable_bits w limit = do
   _ ← ask (leb 1 w & leb w 63 & leb 1 limit) (InvalidVariableBits w limit)
-  groupsFrom w limit limit 0
+  groups_from w limit limit 0
 
 -- w bits; all ones are an escape, to which a variable field of at most 31 groups is added
-unfoldable pub extendedValue : ℕ → Reader ℕ
-extendedValue w = do
+unfoldable pub extended_value : ℕ → Reader ℕ
+extended_value w = do
   base ← bits w
   choose (eqb base (escape w)) (do
-    value ← variableBits w 31
+    value ← variable_bits w 31
     _ ← ask (ltb (base + value) (2 ^ 64)) ValueOverflow
     give (base + value)) (give base)
 

@@ -1,14 +1,13 @@
 -- The reading of a carrier: its fields in order, with the scope's questions 1 to 12 each in its place. Assumes nothing.
-use Rattle.std.specs.Prelude.{false, not, List, [], ◌∷◌, ℕ, zero, suc, ◌+◌, ◌-◌, ◌*◌, length, take, leb, ltb, eqb}
-use Rattle.openjoc_bitio.specs.Choice.{if◌then◌else◌}
-use Rattle.openjoc_bitio.specs.Bits.{bitsValue}
+use Rattle.std.specs.Prelude.{false, not, List, [], ◌∷◌, ℕ, zero, suc, ◌+◌, ◌-◌, ◌*◌, length, take, leb, ltb, eqb, if◌then◌else◌}
+use Rattle.openjoc_bitio.specs.Bits.{bits_value}
 use Rattle.openjoc_bitio.specs.declared.BitError.TheVariants.{EndOfInput}
 use Rattle.emdf_format.specs.Types.{Optional, EmdfError, EmdfPayloadConfig, EmdfPayloadBitTrace, PayloadRecord}
 use Rattle.emdf_format.specs.declared.TruncatedPart.TheVariants as TruncatedPart
 use Rattle.emdf_format.specs.declared.EmdfError.TheVariants.{TruncatedContainer, InvalidSyncword, Bit, UnsupportedVersion, NonzeroReservedData, ReservedPrimaryProtectionLength, ExcessPadding, NonzeroPadding}
 use Rattle.emdf_format.specs.Syntax.{syncword}
-use Rattle.emdf_format.specs.Contents.{Payload, Contents, hasAligned, isOne, hasPriority, protectionLength}
-use Rattle.emdf_format.specs.Reader.{Read, got, refused, Reader, ◌>>=◌, give, ask, choose, position, remaining, bits, variableBits, extendedValue, octets, present, flagged}
+use Rattle.emdf_format.specs.Contents.{Payload, Contents, has_aligned, is_one, has_priority, protection_length}
+use Rattle.emdf_format.specs.Reader.{Read, got, refused, Reader, ◌>>=◌, give, ask, choose, position, remaining, bits, variable_bits, extended_value, octets, present, flagged}
 
 -- ---- settings
 
@@ -18,26 +17,26 @@ reserved w = do
   z ← bits w
   ask (eqb z 0) NonzeroReservedData
 
-unfoldable pub sampleOffset : Reader ℕ
-sampleOffset = do
+unfoldable pub sample_offset_of : Reader ℕ
+sample_offset_of = do
   v ← bits 11
   _ ← reserved 1
   give v
 
-unfoldable pub codecData : Reader ℕ
-codecData = do
+unfoldable pub codec_data : Reader ℕ
+codec_data = do
   flag ← bits 1
   _ ← choose (eqb flag 0) (give tt) (reserved 8)
   give flag
 
 -- the settings whose presence depends on discard, on the sample offset and on aligned
-unfoldable pub configControls : Optional → Optional → Optional → ℕ → ℕ → Reader EmdfPayloadConfig
-configControls sample-offset duration group-id codec discard = do
-  aligned ← present (hasAligned discard sample-offset) (bits 1)
-  create ← present (isOne aligned) (bits 1)
-  remove ← present (isOne aligned) (bits 1)
-  priority ← present (hasPriority discard sample-offset aligned) (bits 5)
-  processing ← present (hasPriority discard sample-offset aligned) (bits 2)
+unfoldable pub config_controls : Optional → Optional → Optional → ℕ → ℕ → Reader EmdfPayloadConfig
+config_controls sample-offset duration group-id codec discard = do
+  aligned ← present (has_aligned discard sample-offset) (bits 1)
+  create ← present (is_one aligned) (bits 1)
+  remove ← present (is_one aligned) (bits 1)
+  priority ← present (has_priority discard sample-offset aligned) (bits 5)
+  processing ← present (has_priority discard sample-offset aligned) (bits 2)
   give (record {
     sample_offset = sample-offset;
     duration = duration;
@@ -51,14 +50,14 @@ configControls sample-offset duration group-id codec discard = do
     processing_allowed = processing;
   })
 
-unfoldable pub payloadConfig : Reader EmdfPayloadConfig
-payloadConfig = do
-  sample-offset ← flagged sampleOffset
-  duration ← flagged (variableBits 11 2)
-  group-id ← flagged (variableBits 2 31)
-  codec ← codecData
+unfoldable pub payload_config : Reader EmdfPayloadConfig
+payload_config = do
+  sample-offset ← flagged sample_offset_of
+  duration ← flagged (variable_bits 11 2)
+  group-id ← flagged (variable_bits 2 31)
+  codec ← codec_data
   discard ← bits 1
-  configControls sample-offset duration group-id codec discard
+  config_controls sample-offset duration group-id codec discard
 
 -- ---- payloads, to the id 0 that ends them
 
@@ -68,8 +67,8 @@ pub record Found : Type 0 where
   pub body : List ℕ
 
 -- the parts adjoin: each ends where the next one starts
-abbrev pub traceOf : ℕ → ℕ → ℕ → ℕ → ℕ → EmdfPayloadBitTrace
-traceOf id config size body end = record {
+abbrev pub trace_of : ℕ → ℕ → ℕ → ℕ → ℕ → EmdfPayloadBitTrace
+trace_of id config size body end = record {
   payload_id_start_bit = record { 0 = id };
   payload_id_end_bit = record { 0 = config };
   config_start_bit = record { 0 = config };
@@ -81,16 +80,16 @@ traceOf id config size body end = record {
 }
 
 -- what follows the id that starts at p₀
-unfoldable pub payloadAfter : ℕ → ℕ → Reader Found
-payloadAfter p₀ id = do
+unfoldable pub payload_after : ℕ → ℕ → Reader Found
+payload_after p₀ id = do
   p₁ ← position
-  config ← payloadConfig
+  config ← payload_config
   p₂ ← position
-  size ← variableBits 8 2
+  size ← variable_bits 8 2
   p₃ ← position
   body ← octets size
   p₄ ← position
-  give (record { record_of = record { id = id; config = config; trace = traceOf p₀ p₁ p₂ p₃ p₄ }; body = body })
+  give (record { record_of = record { id = id; config = config; trace = trace_of p₀ p₁ p₂ p₃ p₄ }; body = body })
 
 -- n bounds how many there are; where it is 0 there are no bits left for another id
 unfoldable pub payloads : ℕ → Reader (List Found)
@@ -99,9 +98,9 @@ payloads zero = do
   give []
 payloads (suc n) = do
   p₀ ← position
-  id ← extendedValue 5
+  id ← extended_value 5
   choose (eqb id 0) (give []) do
-    x ← payloadAfter p₀ id
+    x ← payload_after p₀ id
     xs ← payloads n
     give (x ∷ xs)
 
@@ -121,24 +120,24 @@ padding = do
   ask (eqb z 0) NonzeroPadding
 
 -- what follows the payloads
-unfoldable pub containerEnd : ℕ → List Found → Reader Container
-containerEnd key-id found = do
+unfoldable pub container_end : ℕ → List Found → Reader Container
+container_end key-id found = do
   primary-code ← bits 2
   secondary-code ← bits 2
   _ ← ask (not (eqb primary-code 0)) ReservedPrimaryProtectionLength
-  primary ← octets (protectionLength primary-code)
-  secondary ← octets (protectionLength secondary-code)
+  primary ← octets (protection_length primary-code)
+  secondary ← octets (protection_length secondary-code)
   _ ← padding
   give (record { key-id = key-id; found = found; primary = primary; secondary = secondary })
 
 unfoldable pub container : Reader Container
 container = do
-  version ← extendedValue 2
+  version ← extended_value 2
   _ ← ask (eqb version 0) (UnsupportedVersion version)
-  key-id ← extendedValue 3
+  key-id ← extended_value 3
   n ← remaining
   found ← payloads n
-  containerEnd key-id found
+  container_end key-id found
 
 -- ---- the carrier
 
@@ -154,8 +153,8 @@ consumed n (refused why q) = refusal why
 -- the container is looked for in the declared bytes alone, so that no byte after them matters
 unfoldable pub reading : List ℕ → Reading
 reading s =
-    let sync : ℕ = bitsValue s 0 16 in
-    let d : ℕ = bitsValue s 16 16 in
+    let sync : ℕ = bits_value s 0 16 in
+    let d : ℕ = bits_value s 16 16 in
     if ltb (length s) 4
     then refusal (TruncatedContainer TruncatedPart.Header 4 (length s))
     else (if not (eqb sync syncword)
@@ -166,12 +165,12 @@ reading s =
 
 -- ---- the contents that a reading finds
 
-abbrev pub payloadOf : Found → Payload
-payloadOf x = record { id = x.record_of.id; config = x.record_of.config; body = x.body }
+abbrev pub payload_of : Found → Payload
+payload_of x = record { id = x.record_of.id; config = x.record_of.config; body = x.body }
 
-unfoldable pub payloadsOf : List Found → List Payload
-payloadsOf [] = []
-payloadsOf (x ∷ xs) = payloadOf x ∷ payloadsOf xs
+unfoldable pub payloads_of : List Found → List Payload
+payloads_of [] = []
+payloads_of (x ∷ xs) = payload_of x ∷ payloads_of xs
 
-abbrev pub contentsOf : Container → Contents
-contentsOf c = record { key-id = c.key-id; payloads = payloadsOf c.found; primary = c.primary; secondary = c.secondary }
+abbrev pub contents_of : Container → Contents
+contents_of c = record { key-id = c.key-id; payloads = payloads_of c.found; primary = c.primary; secondary = c.secondary }

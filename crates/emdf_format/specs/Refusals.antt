@@ -11,53 +11,53 @@ use Rattle.emdf_format.specs.declared.EditError.TheVariants as EditError
 use Rattle.emdf_format.specs.declared.RecipeError.TheVariants as RecipeError
 use Rattle.emdf_format.specs.declared.Refusal.TheVariants.{Bare, One, Two}
 
-abbrev pub refusalOf : EmdfError → Refusal
-refusalOf (TruncatedContainer TruncatedPart.Header declared available) = Two 21 declared available
-refusalOf (TruncatedContainer TruncatedPart.Body declared available) = Two 1 declared available
-refusalOf (InvalidSyncword actual) = One 2 actual
-refusalOf (Bit (EndOfInput requested remaining)) = Two 3 requested remaining
-refusalOf (Bit (InvalidWidth width)) = One 4 width
-refusalOf (InvalidVariableBits width limit) = Two 5 width limit
-refusalOf (VariableBitsGroupLimit width limit) = Two 6 width limit
-refusalOf ValueOverflow = Bare 7
-refusalOf (UnsupportedVersion version) = One 8 version
-refusalOf NonzeroReservedData = Bare 9
-refusalOf ReservedPrimaryProtectionLength = Bare 10
-refusalOf (ExcessPadding bits) = One 11 bits
-refusalOf NonzeroPadding = Bare 12
+abbrev pub refusal_of : EmdfError → Refusal
+refusal_of (TruncatedContainer TruncatedPart.Header declared available) = Two 21 declared available
+refusal_of (TruncatedContainer TruncatedPart.Body declared available) = Two 1 declared available
+refusal_of (InvalidSyncword actual) = One 2 actual
+refusal_of (Bit (EndOfInput requested remaining)) = Two 3 requested remaining
+refusal_of (Bit (InvalidWidth width)) = One 4 width
+refusal_of (InvalidVariableBits width limit) = Two 5 width limit
+refusal_of (VariableBitsGroupLimit width limit) = Two 6 width limit
+refusal_of ValueOverflow = Bare 7
+refusal_of (UnsupportedVersion version) = One 8 version
+refusal_of NonzeroReservedData = Bare 9
+refusal_of ReservedPrimaryProtectionLength = Bare 10
+refusal_of (ExcessPadding bits) = One 11 bits
+refusal_of NonzeroPadding = Bare 12
 
-abbrev pub recordsRefusal : RecordsError → Refusal
-recordsRefusal (RecordsError.Emdf why) = refusalOf why
-recordsRefusal (RecordsError.TableTooShort payloads) = One 13 payloads
+abbrev pub records_refusal : RecordsError → Refusal
+records_refusal (RecordsError.Emdf why) = refusal_of why
+records_refusal (RecordsError.TableTooShort payloads) = One 13 payloads
 
-abbrev pub profileRefusal : JocProfileError → Refusal
-profileRefusal (JocProfileError.Emdf why) = refusalOf why
-profileRefusal (JocProfileError.PayloadCount oamd joc) = Two 14 oamd joc
-profileRefusal (JocProfileError.Configuration deviations count) = Two 15 deviations count
+abbrev pub profile_refusal : JocProfileError → Refusal
+profile_refusal (JocProfileError.Emdf why) = refusal_of why
+profile_refusal (JocProfileError.PayloadCount oamd joc) = Two 14 oamd joc
+profile_refusal (JocProfileError.Configuration deviations count) = Two 15 deviations count
 
-abbrev pub bodyRefusal : BodyError → Refusal
-bodyRefusal (BodyError.Emdf why) = refusalOf why
-bodyRefusal BodyError.NoSuchPayload = Bare 16
-bodyRefusal (BodyError.ScratchTooShort needed) = One 19 needed.0
+abbrev pub body_refusal : BodyError → Refusal
+body_refusal (BodyError.Emdf why) = refusal_of why
+body_refusal BodyError.NoSuchPayload = Bare 16
+body_refusal (BodyError.ScratchTooShort needed) = One 19 needed.0
 
-abbrev pub findRefusal : FindError → Refusal
-findRefusal (FindError.Emdf why) = refusalOf why
-findRefusal FindError.NoSuchOrdinal = Bare 24
+abbrev pub find_refusal : FindError → Refusal
+find_refusal (FindError.Emdf why) = refusal_of why
+find_refusal FindError.NoSuchOrdinal = Bare 24
 
-abbrev pub editRefusal : EditError → Refusal
-editRefusal (EditError.Emdf why) = refusalOf why
-editRefusal EditError.NoSuchPlace = Bare 16
-editRefusal EditError.NotWritable = Bare 17
-editRefusal EditError.TooLong = Bare 18
-editRefusal (EditError.DestinationTooShort needed) = One 19 needed.0
-editRefusal EditError.TrailingData = Bare 20
+abbrev pub edit_refusal : EditError → Refusal
+edit_refusal (EditError.Emdf why) = refusal_of why
+edit_refusal EditError.NoSuchPlace = Bare 16
+edit_refusal EditError.NotWritable = Bare 17
+edit_refusal EditError.TooLong = Bare 18
+edit_refusal (EditError.DestinationTooShort needed) = One 19 needed.0
+edit_refusal EditError.TrailingData = Bare 20
 
-abbrev pub recipeRefusal : RecipeError → Refusal
-recipeRefusal RecipeError.BrokenChain = Bare 22
-recipeRefusal RecipeError.InvalidRecord = Bare 23
+abbrev pub recipe_refusal : RecipeError → Refusal
+recipe_refusal RecipeError.BrokenChain = Bare 22
+recipe_refusal RecipeError.InvalidRecord = Bare 23
 
 -- the number, and two figures, zeros where it has none
-abbrev pub figuresOf : Refusal → Figures
-figuresOf (Bare n) = record { number = n; first = 0; second = 0 }
-figuresOf (One n a) = record { number = n; first = a; second = 0 }
-figuresOf (Two n a b) = record { number = n; first = a; second = b }
+abbrev pub figures_of : Refusal → Figures
+figures_of (Bare n) = record { number = n; first = 0; second = 0 }
+figures_of (One n a) = record { number = n; first = a; second = 0 }
+figures_of (Two n a b) = record { number = n; first = a; second = b }

@@ -1,7 +1,6 @@
 -- The fields of Annex H in the direction of writing, as bits: what a value looks like in a container. Assumes nothing.
-use Rattle.std.specs.Prelude.{List, [], ◌∷◌, ◌++◌, ℕ, zero, suc, ◌+◌, ◌-◌, ◌*◌, ◌/◌, ◌%◌, ◌^◌, ltb}
-use Rattle.openjoc_bitio.specs.Choice.{if◌then◌else◌}
-use Rattle.openjoc_bitio.specs.Bits.{numberBits}
+use Rattle.std.specs.Prelude.{List, [], ◌∷◌, ◌++◌, ℕ, zero, suc, ◌+◌, ◌-◌, ◌*◌, ◌/◌, ◌%◌, ◌^◌, ltb, if◌then◌else◌}
+use Rattle.openjoc_bitio.specs.Bits.{number_bits}
 use Rattle.emdf_format.specs.Types.{Optional}
 use Rattle.emdf_format.specs.declared.Optional.TheVariants.{Absent, Present}
 
@@ -10,8 +9,8 @@ abbrev pub syncword : ℕ
 syncword = 0x5838
 
 -- the most bytes that a container declares, in 16 bits
-abbrev pub mostDeclared : ℕ
-mostDeclared = 65535
+abbrev pub most_declared : ℕ
+most_declared = 65535
 
 infixr 65 ◌⨟◌
 -- some bits and then others; not the library's _++_, so that proofs open it where they choose
@@ -21,23 +20,23 @@ xs ⨟ ys = xs ++ ys
 -- ---- variable_bits(w), clause H.2.1.2.1
 
 -- the groups before the last, where k is the value over 2^w: those of k − 1, all with more set (the first number bounds them)
-unfoldable pub groupsBefore : ℕ → ℕ → ℕ → List ℕ
-groupsBefore zero w k = []
-groupsBefore (suc f) w zero = []
-groupsBefore (suc f) w (suc u) = groupsBefore f w (u / 2 ^ w) ⨟ numberBits w (u % 2 ^ w) ⨟ (1 ∷ [])
+unfoldable pub groups_before : ℕ → ℕ → ℕ → List ℕ
+groups_before zero w k = []
+groups_before (suc f) w zero = []
+groups_before (suc f) w (suc u) = groups_before f w (u / 2 ^ w) ⨟ number_bits w (u % 2 ^ w) ⨟ (1 ∷ [])
 
 -- the value v: where it is 2^w or more, first (v / 2^w) − 1 with more set; then v mod 2^w, with more clear
-unfoldable pub variableField : ℕ → ℕ → List ℕ
-variableField w v = groupsBefore (v / 2 ^ w) w (v / 2 ^ w) ⨟ numberBits w (v % 2 ^ w) ⨟ (0 ∷ [])
+unfoldable pub variable_field : ℕ → ℕ → List ℕ
+variable_field w v = groups_before (v / 2 ^ w) w (v / 2 ^ w) ⨟ number_bits w (v % 2 ^ w) ⨟ (0 ∷ [])
 
 -- how many groups stand before the last, and how many there are
-unfoldable pub countBefore : ℕ → ℕ → ℕ → ℕ
-countBefore zero w k = 0
-countBefore (suc f) w zero = 0
-countBefore (suc f) w (suc u) = suc (countBefore f w (u / 2 ^ w))
+unfoldable pub count_before : ℕ → ℕ → ℕ → ℕ
+count_before zero w k = 0
+count_before (suc f) w zero = 0
+count_before (suc f) w (suc u) = suc (count_before f w (u / 2 ^ w))
 
 unfoldable pub groups : ℕ → ℕ → ℕ
-groups w v = suc (countBefore (v / 2 ^ w) w (v / 2 ^ w))
+groups w v = suc (count_before (v / 2 ^ w) w (v / 2 ^ w))
 
 -- how many values g groups hold: 2^w + 2^(2w) + .. + 2^(gw)
 unfoldable pub capacity : ℕ → ℕ → ℕ
@@ -49,25 +48,25 @@ capacity w (suc g) = capacity w g + 2 ^ (suc g * w)
 unfoldable pub escape : ℕ → ℕ
 escape w = 2 ^ w - 1
 
-unfoldable pub extendedField : ℕ → ℕ → List ℕ
-extendedField w v = if ltb v (escape w) then numberBits w v else numberBits w (escape w) ⨟ variableField w (v - escape w)
+unfoldable pub extended_field : ℕ → ℕ → List ℕ
+extended_field w v = if ltb v (escape w) then number_bits w v else number_bits w (escape w) ⨟ variable_field w (v - escape w)
 
 -- how many groups follow the escape; below it there is no variable field
-unfoldable pub extendedGroups : ℕ → ℕ → ℕ
-extendedGroups w v = if ltb v (escape w) then 0 else groups w (v - escape w)
+unfoldable pub extended_groups : ℕ → ℕ → ℕ
+extended_groups w v = if ltb v (escape w) then 0 else groups w (v - escape w)
 
 -- ---- octets, and fields that may be absent
 
-unfoldable pub octetBits : List ℕ → List ℕ
-octetBits [] = []
-octetBits (b ∷ bs) = numberBits 8 b ⨟ octetBits bs
+unfoldable pub octet_bits : List ℕ → List ℕ
+octet_bits [] = []
+octet_bits (b ∷ bs) = number_bits 8 b ⨟ octet_bits bs
 
 -- a flag and, where it is set, the field
-unfoldable pub flaggedField : (ℕ → List ℕ) → Optional → List ℕ
-flaggedField field Absent = 0 ∷ []
-flaggedField field (Present v) = 1 ∷ field v
+unfoldable pub flagged_field : (ℕ → List ℕ) → Optional → List ℕ
+flagged_field field Absent = 0 ∷ []
+flagged_field field (Present v) = 1 ∷ field v
 
 -- the field, where it is present
-unfoldable pub presentField : (ℕ → List ℕ) → Optional → List ℕ
-presentField field Absent = []
-presentField field (Present v) = field v
+unfoldable pub present_field : (ℕ → List ℕ) → Optional → List ℕ
+present_field field Absent = []
+present_field field (Present v) = field v

@@ -2,20 +2,20 @@
 ghost use Rattle.std.specs.Prelude.{◌≡◌};
 ghost use Rattle.emdf_format.specs.Reading.{reading};
 ghost use Rattle.emdf_format.specs.Calls.{classify};
-ghost use Rattle.emdf_format.specs.Ordinals.{findPayload};
+ghost use Rattle.emdf_format.specs.Ordinals.{find_payload};
 ghost use Rattle.emdf_format.specs.Profile.{verdict};
-ghost use Rattle.emdf_format.specs.Edits.{bodyEdit, settingsEdit, dropEdit, insertEdit, keyEdit, protectionEdit, edited, blank};
-ghost use Rattle.openjoc_emdf.specs.Answers.{classAnswer};
+ghost use Rattle.emdf_format.specs.Edits.{body_edit, settings_edit, drop_edit, insert_edit, key_edit, protection_edit, edited, blank};
+ghost use Rattle.openjoc_emdf.specs.Answers.{class_answer};
 ghost use Rattle.emdf_answers.specs.Form.{version};
-ghost use Rattle.emdf_answers.specs.Bits.{BitReplies, newReply, remainingReply, readBitsReply, readBitReply, takeBitsReply, byteAlignReply};
-ghost use Rattle.emdf_answers.specs.Fields.{FieldReplies, variableBitsReply};
-ghost use Rattle.emdf_answers.specs.Replies.{twoReply, Replies};
-ghost use Rattle.emdf_answers.specs.Carriers.{readInto, ReadReplies, classReply, MoveReplies, findFigures};
-ghost use Rattle.emdf_answers.specs.Verdict.{profileOf, verdictReply};
+ghost use Rattle.emdf_answers.specs.Bits.{BitReplies, new_reply, remaining_reply, read_bits_reply, read_bit_reply, take_bits_reply, byte_align_reply};
+ghost use Rattle.emdf_answers.specs.Fields.{FieldReplies, variable_bits_reply};
+ghost use Rattle.emdf_answers.specs.Replies.{two_reply, Replies};
+ghost use Rattle.emdf_answers.specs.Carriers.{read_into, ReadReplies, class_reply, MoveReplies, find_figures};
+ghost use Rattle.emdf_answers.specs.Verdict.{profile_of, verdict_reply};
 ghost use Rattle.emdf_answers.specs.Edits.{EditReplies};
-ghost use Rattle.emdf_settings_bytes.specs.Settings.{settingsOf};
-ghost use Rattle.emdf_recipe.specs.File.{recipeOf, checkAnswer};
-ghost use Rattle.emdf_recipe_bytes.specs.Recipes.{checkedFigures, RecipeReplies};
+ghost use Rattle.emdf_settings_bytes.specs.Settings.{settings_of};
+ghost use Rattle.emdf_recipe.specs.File.{recipe_of, check_answer};
+ghost use Rattle.emdf_recipe_bytes.specs.Recipes.{checked_figures, RecipeReplies};
 
 use emdf_format::RecordsError;
 use openjoc_bitio::BitCursor;
@@ -31,7 +31,7 @@ pub extern "C" fn emdf_version() -> u32
 
 #[unsafe(no_mangle)]
 pub extern "C" fn emdf_bit_cursor(bytes: &[u8], answer: &mut [u8; 48]) -> u32
-    ensures { BitReplies (newReply bytes.now) result answer.new }
+    ensures { BitReplies (new_reply bytes.now) result answer.new }
 {
     emdf_rows::put_reply(answer, emdf_answers::accepted_at(BitCursor::new(bytes), 0))
 }
@@ -43,7 +43,7 @@ pub extern "C" fn emdf_bits_remaining(
     end: usize,
     answer: &mut [u8; 48],
 ) -> u32
-    ensures { BitReplies (remainingReply bytes.now position end) result answer.new }
+    ensures { BitReplies (remaining_reply bytes.now position end) result answer.new }
 {
     let cursor = BitCursor { position, end };
     let remaining = cursor.bits_remaining(bytes);
@@ -58,7 +58,7 @@ pub extern "C" fn emdf_read_bits(
     width: u8,
     answer: &mut [u8; 48],
 ) -> u32
-    ensures { BitReplies (readBitsReply bytes.now position end width) result answer.new }
+    ensures { BitReplies (read_bits_reply bytes.now position end width) result answer.new }
 {
     let cursor = BitCursor { position, end };
     emdf_rows::put_reply(
@@ -74,7 +74,7 @@ pub extern "C" fn emdf_read_bit(
     end: usize,
     answer: &mut [u8; 48],
 ) -> u32
-    ensures { BitReplies (readBitReply bytes.now position end) result answer.new }
+    ensures { BitReplies (read_bit_reply bytes.now position end) result answer.new }
 {
     let cursor = BitCursor { position, end };
     emdf_rows::put_reply(
@@ -91,7 +91,7 @@ pub extern "C" fn emdf_take_bits(
     count: usize,
     answer: &mut [u8; 48],
 ) -> u32
-    ensures { BitReplies (takeBitsReply bytes.now position end count) result answer.new }
+    ensures { BitReplies (take_bits_reply bytes.now position end count) result answer.new }
 {
     let cursor = BitCursor { position, end };
     emdf_rows::put_reply(
@@ -107,7 +107,7 @@ pub extern "C" fn emdf_byte_align(
     end: usize,
     answer: &mut [u8; 48],
 ) -> u32
-    ensures { BitReplies (byteAlignReply bytes.now position end) result answer.new }
+    ensures { BitReplies (byte_align_reply bytes.now position end) result answer.new }
 {
     let cursor = BitCursor { position, end };
     emdf_rows::put_reply(
@@ -126,7 +126,7 @@ pub extern "C" fn emdf_variable_bits(
     limit: u8,
     answer: &mut [u8; 56],
 ) -> u32
-    ensures { FieldReplies (variableBitsReply bytes.now position end width limit) result answer.new }
+    ensures { FieldReplies (variable_bits_reply bytes.now position end width limit) result answer.new }
 {
     let cursor = BitCursor { position, end };
     emdf_rows::put_field(
@@ -138,7 +138,7 @@ pub extern "C" fn emdf_variable_bits(
 // What a range of bytes is.
 #[unsafe(no_mangle)]
 pub extern "C" fn emdf_classify(bytes: &[u8], answer: &mut [u8; 88]) -> u32
-    ensures { Replies (classReply (classAnswer (classify bytes.now))) result answer.new }
+    ensures { Replies (class_reply (class_answer (classify bytes.now))) result answer.new }
 {
     let class = openjoc_emdf::classify_emdf_carrier(bytes);
     let values = emdf_answers::class_words(class);
@@ -149,7 +149,7 @@ pub extern "C" fn emdf_classify(bytes: &[u8], answer: &mut [u8; 88]) -> u32
 // Reads the carrier; a row of 224 bytes a payload goes into the table.
 #[unsafe(no_mangle)]
 pub extern "C" fn emdf_read(bytes: &[u8], table: &mut [u8], answer: &mut [u8; 80]) -> u32
-    ensures { ReadReplies (readInto bytes.now table.old) result answer.new table.old table.new }
+    ensures { ReadReplies (read_into bytes.now table.old) result answer.new table.old table.new }
 {
     let a = openjoc_emdf::open_carrier(bytes);
     match a {
@@ -177,7 +177,7 @@ pub extern "C" fn emdf_find_payload(
     ordinal: u64,
     answer: &mut [u8; 16],
 ) -> u32
-    ensures { Replies (twoReply (findFigures (findPayload id ordinal (reading bytes.now)))) result answer.new }
+    ensures { Replies (two_reply (find_figures (find_payload id ordinal (reading bytes.now)))) result answer.new }
 {
     let found = emdf_ordinals::find_payload(bytes, id, ordinal);
     emdf_rows::put_place(answer, found)
@@ -200,7 +200,7 @@ pub extern "C" fn emdf_move_body(
 // The verdict on the carrier: profile 0 is strict, any other number compat.
 #[unsafe(no_mangle)]
 pub extern "C" fn emdf_verdict(bytes: &[u8], profile: u32, answer: &mut [u8; 40]) -> u32
-    ensures { Replies (verdictReply (verdict (profileOf profile) bytes.now)) result answer.new }
+    ensures { Replies (verdict_reply (verdict (profile_of profile) bytes.now)) result answer.new }
 {
     let judged = joc_profile::validate_joc_profile_for(bytes, emdf_answers::profile_of(profile));
     let values = emdf_answers::verdict_words(judged);
@@ -217,7 +217,7 @@ pub extern "C" fn emdf_edit_body(
     destination: &mut [u8],
     answer: &mut [u8; 16],
 ) -> u32
-    ensures { EditReplies (edited (bodyEdit place body.now) source.now destination.old) result answer.new destination.new }
+    ensures { EditReplies (edited (body_edit place body.now) source.now destination.old) result answer.new destination.new }
 {
     let edited = emdf_edit::replace_body(source, place, body, destination);
     emdf_rows::put_edited(answer, edited)
@@ -232,7 +232,7 @@ pub extern "C" fn emdf_edit_settings(
     destination: &mut [u8],
     answer: &mut [u8; 16],
 ) -> u32
-    ensures { EditReplies (edited (settingsEdit place (settingsOf settings.now)) source.now destination.old) result answer.new destination.new }
+    ensures { EditReplies (edited (settings_edit place (settings_of settings.now)) source.now destination.old) result answer.new destination.new }
 {
     let config = emdf_settings_bytes::settings_of(settings);
     let edited = emdf_edit::replace_settings(source, place, config, destination);
@@ -247,7 +247,7 @@ pub extern "C" fn emdf_edit_drop(
     destination: &mut [u8],
     answer: &mut [u8; 16],
 ) -> u32
-    ensures { EditReplies (edited (dropEdit place) source.now destination.old) result answer.new destination.new }
+    ensures { EditReplies (edited (drop_edit place) source.now destination.old) result answer.new destination.new }
 {
     let edited = emdf_edit::drop_payload(source, place, destination);
     emdf_rows::put_edited(answer, edited)
@@ -264,7 +264,7 @@ pub extern "C" fn emdf_edit_insert(
     destination: &mut [u8],
     answer: &mut [u8; 16],
 ) -> u32
-    ensures { EditReplies (edited (insertEdit place id (settingsOf settings.now) body.now) source.now destination.old) result answer.new destination.new }
+    ensures { EditReplies (edited (insert_edit place id (settings_of settings.now) body.now) source.now destination.old) result answer.new destination.new }
 {
     let config = emdf_settings_bytes::settings_of(settings);
     let edited = emdf_edit::insert_payload(source, place, id, config, body, destination);
@@ -279,7 +279,7 @@ pub extern "C" fn emdf_edit_key(
     destination: &mut [u8],
     answer: &mut [u8; 16],
 ) -> u32
-    ensures { EditReplies (edited (keyEdit key) source.now destination.old) result answer.new destination.new }
+    ensures { EditReplies (edited (key_edit key) source.now destination.old) result answer.new destination.new }
 {
     let edited = emdf_edit::replace_key(source, key, destination);
     emdf_rows::put_edited(answer, edited)
@@ -294,7 +294,7 @@ pub extern "C" fn emdf_edit_protection(
     destination: &mut [u8],
     answer: &mut [u8; 16],
 ) -> u32
-    ensures { EditReplies (edited (protectionEdit primary.now secondary.now) source.now destination.old) result answer.new destination.new }
+    ensures { EditReplies (edited (protection_edit primary.now secondary.now) source.now destination.old) result answer.new destination.new }
 {
     let edited = emdf_edit::replace_protection(source, primary, secondary, destination);
     emdf_rows::put_edited(answer, edited)
@@ -318,7 +318,7 @@ pub extern "C" fn emdf_blank(
 // Whether a file is a recipe, and of how many edits.
 #[unsafe(no_mangle)]
 pub extern "C" fn emdf_check_recipe(recipe: &[u8], answer: &mut [u8; 16]) -> u32
-    ensures { Replies (twoReply (checkedFigures (checkAnswer (recipeOf recipe.now)))) result answer.new }
+    ensures { Replies (two_reply (checked_figures (check_answer (recipe_of recipe.now)))) result answer.new }
 {
     let checked = emdf_recipe::check_recipe(recipe);
     emdf_recipe_bytes::put_checked(answer, checked)

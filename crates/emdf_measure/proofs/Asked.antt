@@ -7,9 +7,9 @@ use native.Mathlib.Nat.{le_trans, mul-le-mul_right}
 use lib.Pow.{pow_mono}
 use lib.Pow.{shr_le}
 use lib.Dec.{ltb}
-use Rattle.openjoc_bitio.specs.Choice.{if◌then◌else◌}
-use Rattle.emdf_format.specs.Syntax.{capacity, countBefore, groups, escape, extendedGroups}
-use Rattle.emdf_format.specs.Contents.{◌&◌, iff, presentAsRuled, extensionBits}
+use Rattle.std.specs.Prelude.{if◌then◌else◌}
+use Rattle.emdf_format.specs.Syntax.{capacity, count_before, groups, escape, extended_groups}
+use Rattle.emdf_format.specs.Contents.{◌&◌, iff, present_as_ruled, extension_bits}
 use Rattle.emdf_format.specs.declared.Optional.{Optional}
 use Rattle.emdf_format.proofs.Variable.{groups-least}
 
@@ -34,17 +34,17 @@ iff-no true h = sym h
 iff-no false h = rw h
 
 -- a setting whose presence was computed
-pub ruled-by : {r a b : Bool} (n : ℕ) (o : Optional) → r ≡ presentAsRuled a n o → a ≡ b → r ≡ presentAsRuled b n o
+pub ruled-by : {r a b : Bool} (n : ℕ) (o : Optional) → r ≡ present_as_ruled a n o → a ≡ b → r ≡ present_as_ruled b n o
 ruled-by n o h e = rw e at h
 
 -- ---- groups
 
 -- the groups before the last, by what is left of the value
-pub count-enough : (f g w k : ℕ) → k ≤ f → k ≤ g → countBefore f w k ≡ countBefore g w k
-unfolding countBefore
+pub count-enough : (f g w k : ℕ) → k ≤ f → k ≤ g → count_before f w k ≡ count_before g w k
+unfolding count_before
 count-enough zero g w zero h l = sym (none g)
   where
-    none : (g : ℕ) → countBefore g w 0 ≡ 0
+    none : (g : ℕ) → count_before g w 0 ≡ 0
     none zero = refl
     none (suc g) = refl
 count-enough zero g w (suc u) h l = absurd (omega arith)
@@ -54,8 +54,8 @@ count-enough (suc f) (suc g) w zero h l = refl
 count-enough (suc f) (suc g) w (suc u) h l = ap suc (count-enough f g w (u / 2 ^ w) (omega (arith, shr_le u w)) (omega (arith, shr_le u w)))
 
 -- one more group
-pub count-more : (w k : ℕ) → (k ≡ 0 → ⊥) → countBefore k w k ≡ suc (countBefore ((k - 1) / 2 ^ w) w ((k - 1) / 2 ^ w))
-unfolding countBefore
+pub count-more : (w k : ℕ) → (k ≡ 0 → ⊥) → count_before k w k ≡ suc (count_before ((k - 1) / 2 ^ w) w ((k - 1) / 2 ^ w))
+unfolding count_before
 count-more w zero h = absurd (h refl)
 count-more w (suc u) h =
     let e : suc u - 1 ≡ u = omega arith in
@@ -78,14 +78,14 @@ bits-few w g h l =
     let a : w + 1 ≤ 12 = omega arith in
     omega (arith, mul-le-mul_right g a)
 
-pub extended-few : (w v : ℕ) → 0 < w → v < 2 ^ 64 → extendedGroups w v ≤ 64
-unfolding extendedGroups
+pub extended-few : (w v : ℕ) → 0 < w → v < 2 ^ 64 → extended_groups w v ≤ 64
+unfolding extended_groups
 extended-few w v h l = go (ltb v (escape w))
   where
     go : (t : Bool) → (if t then 0 else groups w (v - escape w)) ≤ 64
     go true = omega arith
     go false = groups-few w (v - escape w) h (omega arith)
 
-pub extension-few : (w v : ℕ) → 0 < w → w < 12 → v < 2 ^ 64 → extensionBits w v ≤ 768
-unfolding extensionBits
+pub extension-few : (w v : ℕ) → 0 < w → w < 12 → v < 2 ^ 64 → extension_bits w v ≤ 768
+unfolding extension_bits
 extension-few w v h k l = bits-few w _ k (extended-few w v h l)

@@ -1,9 +1,9 @@
 // What is asked of contents: whether they are writable, how many bits they are written as, and how many groups.
 ghost use Rattle.std.specs.Prelude.{◌≡◌, ◌+◌, ◌*◌, ◌≤◌, ◌<◌, leb};
-ghost use Rattle.emdf_format.specs.Syntax.{groups, escape as ones, extendedGroups};
-ghost use Rattle.emdf_format.specs.Groups.{larger as largerOf, optionalGroups};
-ghost use Rattle.emdf_format.specs.Contents.{whenPresent, up_to, presentAsRuled, writableConfig, protectionCode, codable, extensionBits, flaggedBits, presentBits, neededConfig};
-ghost use Rattle.emdf_measure.specs.Parts.{writableControls, controlBits, writableProtection};
+ghost use Rattle.emdf_format.specs.Syntax.{groups, escape as ones, extended_groups};
+ghost use Rattle.emdf_format.specs.Groups.{larger as largerOf, optional_groups};
+ghost use Rattle.emdf_format.specs.Contents.{when_present, up_to, present_as_ruled, writable_config, protection_code, codable, extension_bits, flagged_bits, present_bits, needed_config};
+ghost use Rattle.emdf_measure.specs.Parts.{writable_controls, control_bits, writable_protection};
 
 use emdf_format::{EmdfPayloadConfig, Optional};
 
@@ -15,7 +15,7 @@ pub const MAX_GROUP_ID: u64 = 6148914691236517203;
 
 // Whether settings can be written: each in its range, and there exactly where the rule wants it.
 pub fn writable_config(t: EmdfPayloadConfig) -> bool
-    ensures { result ≡ writableConfig t }
+    ensures { result ≡ writable_config t }
 {
     let offset = t.sample_offset;
     let duration = t.duration;
@@ -40,7 +40,7 @@ pub fn writable_config(t: EmdfPayloadConfig) -> bool
 
 // The settings after discard.
 fn writable_controls(t: EmdfPayloadConfig) -> bool
-    ensures { result ≡ writableControls t }
+    ensures { result ≡ writable_controls t }
 {
     let discard = t.discard_unknown_payload;
     let offset = t.sample_offset;
@@ -67,7 +67,7 @@ fn writable_controls(t: EmdfPayloadConfig) -> bool
 
 // There exactly where the rule wants it, and then at most n.
 fn present_as_ruled(there: bool, n: u64, o: Optional) -> bool
-    ensures { result ≡ presentAsRuled there n o }
+    ensures { result ≡ present_as_ruled there n o }
 {
     if !at_most(o, n) {
         return false;
@@ -79,7 +79,7 @@ fn present_as_ruled(there: bool, n: u64, o: Optional) -> bool
 }
 
 fn at_most(o: Optional, n: u64) -> bool
-    ensures { result ≡ whenPresent (up_to n) o }
+    ensures { result ≡ when_present (up_to n) o }
 {
     match o {
         Optional::Absent => true,
@@ -104,7 +104,7 @@ fn group_count(width: usize, v: u64) -> usize
 // The same, of a field with an escape: of the variable field after it. The escape is all ones.
 pub fn extended_groups(width: usize, escape: u64, v: u64) -> usize
     requires { (0 < width) × (width < 64) × (escape ≡ ones width) }
-    ensures { result ≡ extendedGroups width v }
+    ensures { result ≡ extended_groups width v }
 {
     if v < escape {
         return 0;
@@ -114,7 +114,7 @@ pub fn extended_groups(width: usize, escape: u64, v: u64) -> usize
 
 pub fn optional_groups(width: usize, o: Optional) -> usize
     requires { (0 < width) × (width < 64) }
-    ensures { result ≡ optionalGroups width o }
+    ensures { result ≡ optional_groups width o }
 {
     match o {
         Optional::Absent => 0,
@@ -130,14 +130,14 @@ pub fn larger(a: usize, b: usize) -> usize
 
 // The bits of an id of a payload, with its extension.
 pub fn id_bits(id: u64) -> usize
-    ensures { result ≡ 5 + extensionBits 5 id }
+    ensures { result ≡ 5 + extension_bits 5 id }
 {
     5 + 6 * extended_groups(5, 31, id)
 }
 
 // The bits of version 0 and a key id, with its extension.
 pub fn key_bits(key: u64) -> usize
-    ensures { result ≡ 5 + extensionBits 3 key }
+    ensures { result ≡ 5 + extension_bits 3 key }
 {
     5 + 4 * extended_groups(3, 7, key)
 }
@@ -151,7 +151,7 @@ pub fn size_bits(n: usize) -> usize
 
 // The bits of settings.
 pub fn config_bits(t: EmdfPayloadConfig) -> usize
-    ensures { (result ≡ neededConfig t) × (result ≤ 2048) }
+    ensures { (result ≡ needed_config t) × (result ≤ 2048) }
 {
     let offset = t.sample_offset;
     let duration = t.duration;
@@ -164,7 +164,7 @@ pub fn config_bits(t: EmdfPayloadConfig) -> usize
 }
 
 fn offset_bits(o: Optional) -> usize
-    ensures { (result ≡ flaggedBits (λ v. 12) o) × (result ≤ 13) }
+    ensures { (result ≡ flagged_bits (λ v. 12) o) × (result ≤ 13) }
 {
     match o {
         Optional::Absent => 1,
@@ -175,7 +175,7 @@ fn offset_bits(o: Optional) -> usize
 // A flag and, where it is set, a variable field.
 fn variable_bits(o: Optional, width: usize) -> usize
     requires { (0 < width) × (width < 12) }
-    ensures { (result ≡ flaggedBits (λ v. (width + 1) * groups width v) o) × (result ≤ 769) }
+    ensures { (result ≡ flagged_bits (λ v. (width + 1) * groups width v) o) × (result ≤ 769) }
 {
     match o {
         Optional::Absent => 1,
@@ -185,7 +185,7 @@ fn variable_bits(o: Optional, width: usize) -> usize
 
 // The bits of the settings after discard.
 fn control_bits(t: EmdfPayloadConfig) -> usize
-    ensures { (result ≡ controlBits t) × (result ≤ 10) }
+    ensures { (result ≡ control_bits t) × (result ≤ 10) }
 {
     let aligned = t.payload_frame_aligned;
     let create = t.create_duplicate;
@@ -197,7 +197,7 @@ fn control_bits(t: EmdfPayloadConfig) -> usize
 }
 
 fn present_bits(o: Optional, width: usize) -> usize
-    ensures { (result ≡ presentBits width o) × (result ≤ width) }
+    ensures { (result ≡ present_bits width o) × (result ≤ width) }
 {
     match o {
         Optional::Absent => 0,
@@ -207,7 +207,7 @@ fn present_bits(o: Optional, width: usize) -> usize
 
 // The code of a protection's length, and whether it has one of its own.
 pub fn protection_code(n: usize) -> u64
-    ensures { result ≡ protectionCode n }
+    ensures { result ≡ protection_code n }
 {
     match n {
         0 => 0,
@@ -231,7 +231,7 @@ fn is_codable(n: usize) -> bool
 
 // Whether both protections have a length that has a code, and the first is not empty.
 pub fn writable_protection(primary: &[u8], secondary: &[u8]) -> bool
-    ensures { result ≡ writableProtection primary.now secondary.now }
+    ensures { result ≡ writable_protection primary.now secondary.now }
 {
     if primary.len() == 0 {
         return false;

@@ -7,7 +7,7 @@ use native.Mathlib.Omega.{arith}
 use lib.Dec.{eqb}
 use lib.ListN.{length, length-append}
 use borrow.Author.Tests.{eqb-true, eq-eqb, ne_eqb}
-use Rattle.openjoc_bitio.specs.Choice.{if◌then◌else◌}
+use Rattle.std.specs.Prelude.{if◌then◌else◌}
 use Rattle.openjoc_bitio.specs.declared.BitCursor.{BitCursor}
 use Rattle.emdf_format.specs.declared.EmdfError.{EmdfError}
 use Rattle.emdf_format.specs.declared.PayloadRecord.{PayloadRecord}
@@ -15,15 +15,15 @@ use Rattle.emdf_format.specs.declared.FindAnswer.{FindAnswer}
 use Rattle.emdf_format.specs.declared.FindAnswer.TheVariants.{Place, Refused}
 use Rattle.emdf_format.specs.declared.FindError.TheVariants.{Emdf, NoSuchOrdinal}
 use Rattle.emdf_format.specs.Contents.{◌&◌}
-use Rattle.emdf_format.specs.Reading.{Found, payloadsOf, refusal, reading}
-use Rattle.emdf_format.specs.Ordinals.{occurrences, ordinalAt, ids_of, ids_in, rows_from, rows_of, findIn, findPayload}
+use Rattle.emdf_format.specs.Reading.{Found, payloads_of, refusal, reading}
+use Rattle.emdf_format.specs.Ordinals.{occurrences, ordinal_at, ids_of, ids_in, rows_from, rows_of, find_in, find_payload}
 use Rattle.emdf_format.proofs.Ordinals.{occurrences-append, ordinal-next}
 use Rattle.openjoc_emdf.specs.declared.ParsedEmdf.{ParsedEmdf}
 use Rattle.openjoc_emdf.specs.Answers.{Opened}
 use Rattle.emdf_payloads.specs.declared.PayloadStep.TheVariants as PayloadStep
-use Rattle.emdf_payloads.specs.Payloads.{Listed, stepAt}
+use Rattle.emdf_payloads.specs.Payloads.{Listed, step_at}
 use Rattle.emdf_payloads.proofs.Walk.{step-found, step-ended, step-refused}
-use Rattle.emdf_ordinals.specs.Rows.{isWanted}
+use Rattle.emdf_ordinals.specs.Rows.{is_wanted}
 
 -- payloads with the ids before were passed, so many of them with id x; what is found among those left is the answer
 pub record Looking (s : List ℕ) (at : BitCursor) (x o place seen : ℕ) (answer : FindAnswer) : Type 0 where
@@ -32,14 +32,14 @@ pub record Looking (s : List ℕ) (at : BitCursor) (x o place seen : ℕ) (answe
   pub listed : Listed s at left
   pub passed : length before ≡ place
   pub counted : occurrences x before ≡ seen
-  pub same : findIn x o place (rows_from (before ++ ids_in left) place left) ≡ answer
+  pub same : find_in x o place (rows_from (before ++ ids_in left) place left) ≡ answer
 
-pub looking-all : {s : List ℕ} {c : BitCursor} (x o : ℕ) (xs : List Found) → Listed s c xs → Looking s c x o 0 0 (findIn x o 0 (rows_of xs))
+pub looking-all : {s : List ℕ} {c : BitCursor} (x o : ℕ) (xs : List Found) → Listed s c xs → Looking s c x o 0 0 (find_in x o 0 (rows_of xs))
 unfolding rows_of occurrences
 looking-all x o xs l = record { before = []; left = xs; listed = l; passed = refl; counted = refl; same = refl }
 
 -- the test of the payload after those
-wanted-row : (found x o : ℕ) (before : List ℕ) → isWanted found x o (occurrences x before) ≡ (eqb found x & eqb (suc (occurrences found before)) o)
+wanted-row : (found x o : ℕ) (before : List ℕ) → is_wanted found x o (occurrences x before) ≡ (eqb found x & eqb (suc (occurrences found before)) o)
 unfolding ◌&◌
 wanted-row found x o before = go (eqb found x) refl
   where
@@ -50,25 +50,25 @@ wanted-row found x o before = go (eqb found x) refl
     go false e = refl
 
 module _ {s : List ℕ} {c : BitCursor} {x o place seen : ℕ} {answer : FindAnswer} (a : Looking s c x o place seen answer) where
-  module _ {r : PayloadRecord} {next : BitCursor} (h : stepAt s c ≡ PayloadStep.Payload r next) where
+  module _ {r : PayloadRecord} {next : BitCursor} (h : step_at s c ≡ PayloadStep.Payload r next) where
     -- the first row, and the others
     turned : (xs : List Found) → a.left ≡ xs → Listed s c xs
-        → (others : List Found) × (Listed s next others) × (answer ≡ (if isWanted r.id x o seen then Place place else findIn x o (suc place) (rows_from ((a.before ++ r.id ∷ []) ++ ids_in others) (suc place) others)))
-    unfolding findIn rows_from ids_of payloadsOf
+        → (others : List Found) × (Listed s next others) × (answer ≡ (if is_wanted r.id x o seen then Place place else find_in x o (suc place) (rows_from ((a.before ++ r.id ∷ []) ++ ids_in others) (suc place) others)))
+    unfolding find_in rows_from ids_of payloads_of
     turned xs e l =
         let f = step-found s c xs l h in
-        (f.others, f.listed, sym a.same ∙ ap (λ (ys : List Found). findIn x o place (rows_from (a.before ++ ids_in ys) place ys)) (e ∙ f.is) ∙ first-row f.first f.others (ap (λ (q : PayloadRecord). q.id) f.record_is))
+        (f.others, f.listed, sym a.same ∙ ap (λ (ys : List Found). find_in x o place (rows_from (a.before ++ ids_in ys) place ys)) (e ∙ f.is) ∙ first-row f.first f.others (ap (λ (q : PayloadRecord). q.id) f.record_is))
       where
         first-row : (y : Found) (ys : List Found) → y.record_of.id ≡ r.id
-            → findIn x o place (rows_from (a.before ++ ids_in (y ∷ ys)) place (y ∷ ys)) ≡ (if isWanted r.id x o seen then Place place else findIn x o (suc place) (rows_from ((a.before ++ r.id ∷ []) ++ ids_in ys) (suc place) ys))
+            → find_in x o place (rows_from (a.before ++ ids_in (y ∷ ys)) place (y ∷ ys)) ≡ (if is_wanted r.id x o seen then Place place else find_in x o (suc place) (rows_from ((a.before ++ r.id ∷ []) ++ ids_in ys) (suc place) ys))
         first-row y ys i =
-            let n : ordinalAt (a.before ++ y.record_of.id ∷ ids_in ys) place ≡ suc (occurrences y.record_of.id a.before) = ap (ordinalAt (a.before ++ y.record_of.id ∷ ids_in ys)) (sym a.passed) ∙ ordinal-next a.before y.record_of.id (ids_in ys) in
+            let n : ordinal_at (a.before ++ y.record_of.id ∷ ids_in ys) place ≡ suc (occurrences y.record_of.id a.before) = ap (ordinal_at (a.before ++ y.record_of.id ∷ ids_in ys)) (sym a.passed) ∙ ordinal-next a.before y.record_of.id (ids_in ys) in
             rw (n, ← wanted-row y.record_of.id x o a.before, i, a.counted, append_assoc a.before (r.id ∷ []) (ids_in ys))
 
-    pub looked-found : isWanted r.id x o seen ≡ true → Place place ≡ answer
+    pub looked-found : is_wanted r.id x o seen ≡ true → Place place ≡ answer
     looked-found w = let (others, l, e) = turned a.left refl a.listed in sym (rw w at e)
 
-    pub looked-past : {more : ℕ} → isWanted r.id x o seen ≡ false → more ≡ (if eqb r.id x then seen + 1 else seen) → Looking s next x o (place + 1) more answer
+    pub looked-past : {more : ℕ} → is_wanted r.id x o seen ≡ false → more ≡ (if eqb r.id x then seen + 1 else seen) → Looking s next x o (place + 1) more answer
     unfolding occurrences
     looked-past {more} w m =
         let (others, l, e) = turned a.left refl a.listed in
@@ -86,11 +86,11 @@ module _ {s : List ℕ} {c : BitCursor} {x o place seen : ℕ} {answer : FindAns
         more-seen true b = let k : more ≡ seen + 1 = rw b at m in rw b (omega (arith, a.counted))
         more-seen false b = let k : more ≡ seen = rw b at m in rw b (omega (arith, a.counted))
 
-  pub looked-ended : {next : BitCursor} → stepAt s c ≡ PayloadStep.End next → Refused NoSuchOrdinal ≡ answer
-  unfolding findIn rows_from
-  looked-ended h = ap (λ (ys : List Found). findIn x o place (rows_from (a.before ++ ids_in ys) place ys)) (sym (step-ended s c a.left a.listed h)) ∙ a.same
+  pub looked-ended : {next : BitCursor} → step_at s c ≡ PayloadStep.End next → Refused NoSuchOrdinal ≡ answer
+  unfolding find_in rows_from
+  looked-ended h = ap (λ (ys : List Found). find_in x o place (rows_from (a.before ++ ids_in ys) place ys)) (sym (step-ended s c a.left a.listed h)) ∙ a.same
 
-  pub never-refused : {why : EmdfError} → stepAt s c ≡ PayloadStep.Refused why → ⊥
+  pub never-refused : {why : EmdfError} → step_at s c ≡ PayloadStep.Refused why → ⊥
   never-refused h = step-refused s c a.left a.listed h
 
 -- ---- what was seen, by whether a payload has the id
@@ -112,10 +112,10 @@ module _ (seen : ℕ) {more : ℕ} (a x : ℕ) where
 
 -- ---- by what opening the carrier says
 
-pub opened-find : {s : List ℕ} {p : ParsedEmdf} {first : BitCursor} (x o : ℕ) (d : Opened s p first) → findIn x o 0 (rows_of d.container.found) ≡ findPayload x o (reading s)
-unfolding findPayload
+pub opened-find : {s : List ℕ} {p : ParsedEmdf} {first : BitCursor} (x o : ℕ) (d : Opened s p first) → find_in x o 0 (rows_of d.container.found) ≡ find_payload x o (reading s)
+unfolding find_payload
 opened-find x o d = rw d.is
 
-pub unopened-find : (s : List ℕ) {why : EmdfError} (x o : ℕ) → reading s ≡ refusal why → Refused (Emdf why) ≡ findPayload x o (reading s)
-unfolding findPayload
+pub unopened-find : (s : List ℕ) {why : EmdfError} (x o : ℕ) → reading s ≡ refusal why → Refused (Emdf why) ≡ find_payload x o (reading s)
+unfolding find_payload
 unopened-find s x o h = rw h

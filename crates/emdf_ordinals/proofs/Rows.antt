@@ -10,10 +10,10 @@ use lib.Dec.{eqb}
 use lib.ListN.{length, get_or, take, replicate, length-set}
 use lib.Seq.{length-take-le, get_or-set_same, get_or-set_other}
 use borrow.Author.Tests.{eqb-true, eqb-false, eq-eqb, ne_eqb, lt-ltb, le-ltb}
-use Rattle.openjoc_bitio.specs.Choice.{if◌then◌else◌}
-use Rattle.emdf_format.specs.Ordinals.{occurrences, ordinalAt}
+use Rattle.std.specs.Prelude.{if◌then◌else◌}
+use Rattle.emdf_format.specs.Ordinals.{occurrences, ordinal_at}
 use Rattle.emdf_format.proofs.Ordinals.{occurrences-most, same_id, other-id}
-use Rattle.emdf_ordinals.specs.Rows.{slot_of, searched, slotsWith, lastOrdinal}
+use Rattle.emdf_ordinals.specs.Rows.{slot_of, searched, slots_with, last_ordinal}
 
 -- ---- slots
 
@@ -56,7 +56,7 @@ module _ {slots ids : List ℕ} {k : ℕ} (t : Tracks slots ids k) (h : k < leng
   own = get_or ids k 0
 
   abbrev after : List ℕ
-  after = slotsWith slots own k
+  after = slots_with slots own k
 
   next-searched : (x : ℕ) → (searched after x (suc k) ≤ suc k) × (occurrences x (take (searched after x (suc k)) ids) ≡ occurrences x (take (suc k) ids))
   next-searched x = elim (dec_lt (slot_of x) (length slots)) [
@@ -85,15 +85,15 @@ module _ {slots ids : List ℕ} {k : ℕ} (t : Tracks slots ids k) (h : k < leng
 
 -- the first n rows have these ids and their ordinals
 abbrev pub Numbers : (ℕ → ℕ) → (ℕ → ℕ) → List ℕ → ℕ → Type 0
-Numbers id ordinal ids n = (j : ℕ) → j < n → (id j ≡ get_or ids j 0) × (ordinal j ≡ ordinalAt ids j)
+Numbers id ordinal ids n = (j : ℕ) → j < n → (id j ≡ get_or ids j 0) × (ordinal j ≡ ordinal_at ids j)
 
 module _ (id ordinal : ℕ → ℕ) (ids : List ℕ) where
-  last-counts : (x n : ℕ) → n ≤ length ids → Numbers id ordinal ids n → lastOrdinal id ordinal x n ≡ occurrences x (take n ids)
-  unfolding lastOrdinal ordinalAt occurrences
+  last-counts : (x n : ℕ) → n ≤ length ids → Numbers id ordinal ids n → last_ordinal id ordinal x n ≡ occurrences x (take n ids)
+  unfolding last_ordinal ordinal_at occurrences
   last-counts x zero h f = refl
   last-counts x (suc n) h f = go (eqb (id n) x) refl (last-counts x n (omega arith) (λ j l. f j (omega arith)))
     where
-      go : (b : Bool) → eqb (id n) x ≡ b → lastOrdinal id ordinal x n ≡ occurrences x (take n ids) → (if b then ordinal n else lastOrdinal id ordinal x n) ≡ occurrences x (take (suc n) ids)
+      go : (b : Bool) → eqb (id n) x ≡ b → last_ordinal id ordinal x n ≡ occurrences x (take n ids) → (if b then ordinal n else last_ordinal id ordinal x n) ≡ occurrences x (take (suc n) ids)
       go true e before =
           let own : get_or ids n 0 ≡ x = sym (f n (omega arith)).0 ∙ eqb-true _ _ e in
           (f n (omega arith)).1 ∙ ap (λ (y : ℕ). occurrences y (take (suc n) ids)) own
@@ -101,13 +101,13 @@ module _ (id ordinal : ℕ → ℕ) (ids : List ℕ) where
           let other : eqb (get_or ids n 0) x ≡ false = ap (λ (y : ℕ). eqb y x) (sym (f n (omega arith)).0) ∙ e in
           before ∙ sym (other-id ids n (omega arith) x other)
 
-  pub last-most : (x n : ℕ) → n ≤ length ids → Numbers id ordinal ids n → lastOrdinal id ordinal x n ≤ n
+  pub last-most : (x n : ℕ) → n ≤ length ids → Numbers id ordinal ids n → last_ordinal id ordinal x n ≤ n
   last-most x n h f = omega (arith, last-counts x n h f, occurrences-most x (take n ids), length-take-le n ids h)
 
   -- the ordinal at a place: one more than that of the last row before it with its id
   pub ordinal-by-rows : {slots : List ℕ} {k : ℕ} → k < length ids → Tracks slots ids k → Numbers id ordinal ids k
-      → suc (lastOrdinal id ordinal (get_or ids k 0) (searched slots (get_or ids k 0) k)) ≡ ordinalAt ids k
-  unfolding ordinalAt
+      → suc (last_ordinal id ordinal (get_or ids k 0) (searched slots (get_or ids k 0) k)) ≡ ordinal_at ids k
+  unfolding ordinal_at
   ordinal-by-rows {slots} {k} h t f =
       let x : ℕ = get_or ids k 0 in
       ap suc (last-counts x (searched slots x k) (omega (arith, t.within x)) (λ j l. f j (omega (arith, t.within x))) ∙ t.same x) ∙ sym (same_id ids k h x refl)
@@ -115,24 +115,24 @@ module _ (id ordinal : ℕ → ℕ) (ids : List ℕ) where
 -- ---- rows from the last to the first
 
 module _ (id ordinal : ℕ → ℕ) (x : ℕ) where
-  pub last-here : (left : ℕ) → (left ≡ 0 → ⊥) → id (left - 1) ≡ x → ordinal (left - 1) ≡ lastOrdinal id ordinal x left
-  unfolding lastOrdinal
+  pub last-here : (left : ℕ) → (left ≡ 0 → ⊥) → id (left - 1) ≡ x → ordinal (left - 1) ≡ last_ordinal id ordinal x left
+  unfolding last_ordinal
   last-here zero h e = absurd (h refl)
   last-here (suc left) h e =
       let n : suc left - 1 ≡ left = omega arith in
       let f : id left ≡ x = rw n at e in
       rw (n, eq-eqb (id left) x f)
 
-  pub last-before : (left : ℕ) → (left ≡ 0 → ⊥) → (id (left - 1) ≡ x → ⊥) → lastOrdinal id ordinal x (left - 1) ≡ lastOrdinal id ordinal x left
-  unfolding lastOrdinal
+  pub last-before : (left : ℕ) → (left ≡ 0 → ⊥) → (id (left - 1) ≡ x → ⊥) → last_ordinal id ordinal x (left - 1) ≡ last_ordinal id ordinal x left
+  unfolding last_ordinal
   last-before zero h e = absurd (h refl)
   last-before (suc left) h e =
       let n : suc left - 1 ≡ left = omega arith in
       let f : id left ≡ x → ⊥ = rw n at e in
       rw (n, ne_eqb (id left) x f)
 
-pub none_left : (id ordinal : ℕ → ℕ) (x left : ℕ) → left ≡ 0 → lastOrdinal id ordinal x left ≡ 0
-unfolding lastOrdinal
+pub none_left : (id ordinal : ℕ → ℕ) (x left : ℕ) → left ≡ 0 → last_ordinal id ordinal x left ≡ 0
+unfolding last_ordinal
 none_left id ordinal x zero h = refl
 none_left id ordinal x (suc left) h = absurd (omega arith)
 

@@ -1,9 +1,9 @@
 // Which of the payloads of its id a payload is: by the rows before its own, and in a carrier.
 ghost use Rattle.std.specs.Prelude.{◌≡◌, List, ◌+◌, ◌*◌, ◌≤◌, ◌<◌, ◌^◌, length};
 ghost use Rattle.emdf_format.specs.Reading.{Found, reading};
-ghost use Rattle.emdf_format.specs.Ordinals.{rows_of, findIn, findPayload};
+ghost use Rattle.emdf_format.specs.Ordinals.{rows_of, find_in, find_payload};
 ghost use Rattle.emdf_payloads.specs.Payloads.{Listed};
-ghost use Rattle.emdf_ordinals.specs.Rows.{searched, slotsWith, lastOrdinal, columnAt, isWanted};
+ghost use Rattle.emdf_ordinals.specs.Rows.{searched, slots_with, last_ordinal, column_at, is_wanted};
 
 use emdf_format::{FindAnswer, FindError};
 use emdf_payloads::SkipStep;
@@ -16,7 +16,7 @@ pub const SLOTS: usize = 512;
 // How many of the rows before this place may have its id: those up to the last one with the id's slot, which is then this one.
 pub fn take_slot(slots: &mut [u64], id: u64, place: usize) -> usize
     requires { place + 1 < 2 ^ 64 }
-    ensures { (result ≡ searched slots.old id place) × (slots.new ≡ slotsWith slots.old id place) }
+    ensures { (result ≡ searched slots.old id place) × (slots.new ≡ slots_with slots.old id place) }
 {
     let slot = (id % 512) as usize;
     if slots.len() <= slot {
@@ -31,7 +31,7 @@ pub fn take_slot(slots: &mut [u64], id: u64, place: usize) -> usize
 // ordinal at offset.
 pub fn last_ordinal(table: &[u8], width: usize, offset: usize, rows: usize, id: u64) -> u64
     requires { (8 ≤ width) × (offset + 8 ≤ width) × (rows * width ≤ length table.now) }
-    ensures { result ≡ lastOrdinal (columnAt table.now width 0) (columnAt table.now width offset) id rows }
+    ensures { result ≡ last_ordinal (column_at table.now width 0) (column_at table.now width offset) id rows }
 {
     let mut left = rows;
     let mut at = rows * width;
@@ -47,7 +47,7 @@ pub fn last_ordinal(table: &[u8], width: usize, offset: usize, rows: usize, id: 
 
 // The place of the payload with an id and an ordinal.
 pub fn find_payload(bytes: &[u8], id: u64, ordinal: u64) -> FindAnswer
-    ensures { result ≡ findPayload id ordinal (reading bytes.now) }
+    ensures { result ≡ find_payload id ordinal (reading bytes.now) }
 {
     let a = openjoc_emdf::open_carrier(bytes);
     match a {
@@ -62,7 +62,7 @@ pub fn find_payload(bytes: &[u8], id: u64, ordinal: u64) -> FindAnswer
 // The same, where the payloads start at c.
 fn find_from(s: &[u8], c: BitCursor, id: u64, ordinal: u64) -> FindAnswer
     requires { (xs : List Found) × Listed s.now c xs }
-    ensures { (xs : List Found) → Listed s.now c xs → result ≡ findIn id ordinal 0 (rows_of xs) }
+    ensures { (xs : List Found) → Listed s.now c xs → result ≡ find_in id ordinal 0 (rows_of xs) }
 {
     let mut at = c;
     let mut place: usize = 0;
@@ -94,7 +94,7 @@ fn find_from(s: &[u8], c: BitCursor, id: u64, ordinal: u64) -> FindAnswer
 // Whether a payload has the id, and is the one after those seen with it.
 fn is_wanted(found: u64, id: u64, ordinal: u64, seen: u64) -> bool
     requires { seen + 1 < 2 ^ 64 }
-    ensures { result ≡ isWanted found id ordinal seen }
+    ensures { result ≡ is_wanted found id ordinal seen }
 {
     if found != id {
         return false;

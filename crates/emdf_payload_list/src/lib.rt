@@ -1,10 +1,10 @@
 // The list of payloads: how many there are, and the largest number of groups in them.
 ghost use Rattle.std.specs.Prelude.{◌≡◌, ◌-◌, ◌^◌, ◌<◌};
-ghost use Rattle.openjoc_bitio.specs.Cursor.{bitsRemaining};
+ghost use Rattle.openjoc_bitio.specs.Cursor.{bits_remaining};
 ghost use Rattle.emdf_format.specs.Reading.{payloads};
-ghost use Rattle.emdf_payloads.specs.Compact.{compactGroups};
-ghost use Rattle.emdf_payloads.specs.Payloads.{stepAt, recordGroups};
-ghost use Rattle.emdf_payload_list.specs.List.{listStep, listAnswer, listError};
+ghost use Rattle.emdf_payloads.specs.Compact.{compact_groups};
+ghost use Rattle.emdf_payloads.specs.Payloads.{step_at, record_groups};
+ghost use Rattle.emdf_payload_list.specs.List.{list_step, list_answer, list_error};
 
 use emdf_format::{EmdfError, PayloadRecord};
 use emdf_payloads::PayloadStep;
@@ -29,7 +29,7 @@ enum ListStep {
 // is marked.
 fn compact_groups(head: usize, size: usize) -> usize
     requires { head < 2 ^ 8 }
-    ensures { result ≡ compactGroups head size }
+    ensures { result ≡ compact_groups head size }
 {
     if size == 18 {
         return 2;
@@ -39,7 +39,7 @@ fn compact_groups(head: usize, size: usize) -> usize
 
 // The largest number of groups in a payload.
 fn record_groups(payload: PayloadRecord) -> usize
-    ensures { result ≡ recordGroups payload }
+    ensures { result ≡ record_groups payload }
 {
     let config = payload.config;
     let duration = config.duration;
@@ -68,7 +68,7 @@ fn bits_between(start: usize, end: usize) -> usize
 }
 
 fn list_step(step: PayloadStep, most: usize) -> ListStep
-    ensures { result ≡ listStep most step }
+    ensures { result ≡ list_step most step }
 {
     match step {
         PayloadStep::Payload(record, next) => {
@@ -81,7 +81,7 @@ fn list_step(step: PayloadStep, most: usize) -> ListStep
 
 // Past the next payload, with the larger of a number of groups and its own.
 fn pass_payload(s: &[u8], c: BitCursor, most: usize) -> ListStep
-    ensures { result ≡ listStep most (stepAt s.now c) }
+    ensures { result ≡ list_step most (step_at s.now c) }
 {
     let position = c.position;
     let end = c.end;
@@ -104,7 +104,7 @@ fn pass_payload(s: &[u8], c: BitCursor, most: usize) -> ListStep
 }
 
 pub fn list_error(a: ListAnswer) -> EmdfError
-    ensures { result ≡ listError a result }
+    ensures { result ≡ list_error a result }
 {
     match a {
         ListAnswer::List(_, _, _) => EmdfError::ValueOverflow,
@@ -114,7 +114,7 @@ pub fn list_error(a: ListAnswer) -> EmdfError
 
 // Reads all payloads, to the end of the list.
 pub fn count_payloads(s: &[u8], c: BitCursor) -> ListAnswer
-    ensures { result ≡ listAnswer c.end (payloads (bitsRemaining s.now c) s.now c.end c.position) }
+    ensures { result ≡ list_answer c.end (payloads (bits_remaining s.now c) s.now c.end c.position) }
 {
     let mut count: usize = 0;
     let mut groups: usize = 0;

@@ -3,46 +3,46 @@ use mathlib.Core.Path.{◌≡◌, sym, ap, ◌∙◌}
 use mathlib.Core.List.{List, [], ◌∷◌}
 use Prim.Native.Nat.{ℕ, suc, ◌-◌, ◌≤◌, ◌<◌}
 use native.Mathlib.Omega.{arith}
-use Rattle.openjoc_bitio.specs.Cursor.{bitsRemaining}
+use Rattle.openjoc_bitio.specs.Cursor.{bits_remaining}
 use Rattle.openjoc_bitio.specs.declared.BitCursor.{BitCursor}
-use Rattle.emdf_format.specs.Reader.{Read, got, refused, Reader, ◌>>=◌, give, cursorAt}
+use Rattle.emdf_format.specs.Reader.{Read, got, refused, Reader, ◌>>=◌, give, cursor_at}
 use Rattle.emdf_format.specs.Reading.{Found as Payload, payloads}
 use Rattle.emdf_format.specs.declared.EmdfError.{EmdfError}
 use Rattle.emdf_format.specs.declared.PayloadRecord.{PayloadRecord}
-use Rattle.emdf_format.proofs.Standing.{bitLimit, remaining-limit, taken, chosen, bind_inv, bind_assoc, bind-same, choose-inv, choose-bind, choose-same, give-inv, give-bind, stands-in}
+use Rattle.emdf_format.proofs.Standing.{bit_limit, remaining-limit, taken, chosen, bind_inv, bind_assoc, bind-same, choose-inv, choose-bind, choose-same, give-inv, give-bind, stands-in}
 use Rattle.emdf_format.proofs.Payloads.{at-inv, id-law}
 use Rattle.emdf_format.proofs.Lengths.{length-extended}
 use Rattle.emdf_format.proofs.Loops.{payloads-enough, after-moves, id-moves}
-use Rattle.emdf_payloads.specs.Payloads.{NextPayload, ended, found, nextPayload, nextStep, nextAnswer}
+use Rattle.emdf_payloads.specs.Payloads.{NextPayload, ended, found, next_payload, next_step, next_answer}
 use Rattle.emdf_payloads.specs.declared.PayloadStep.TheVariants as PayloadStep
 use Rattle.emdf_fields.proofs.Answers.{Found}
 
 -- ---- what a turn's answer says
 
-pub ended_is : {e : ℕ} (y : Read NextPayload) {c : BitCursor} → nextAnswer e y ≡ PayloadStep.End c → Found y e ended c
-unfolding nextAnswer nextStep
-ended_is {e} (got ended q) {c} h = let b : cursorAt e q ≡ c = cc in record { is = rw (← b); end = rw (← b) }
+pub ended_is : {e : ℕ} (y : Read NextPayload) {c : BitCursor} → next_answer e y ≡ PayloadStep.End c → Found y e ended c
+unfolding next_answer next_step
+ended_is {e} (got ended q) {c} h = let b : cursor_at e q ≡ c = cc in record { is = rw (← b); end = rw (← b) }
 ended_is (got (found x) q) h = absurd (let w : ◌≡◌ {A = ℕ} 0 1 = cc in omega arith)
 ended_is (refused why q) h = absurd (let w : ◌≡◌ {A = ℕ} 0 1 = cc in omega arith)
 
-pub found-is : (e : ℕ) (y : Read NextPayload) {r : PayloadRecord} {c : BitCursor} → nextAnswer e y ≡ PayloadStep.Payload r c → (x : Payload) × (x.record_of ≡ r) × Found y e (found x) c
-unfolding nextAnswer nextStep
+pub found-is : (e : ℕ) (y : Read NextPayload) {r : PayloadRecord} {c : BitCursor} → next_answer e y ≡ PayloadStep.Payload r c → (x : Payload) × (x.record_of ≡ r) × Found y e (found x) c
+unfolding next_answer next_step
 found-is e (got ended q) h = absurd (let w : ◌≡◌ {A = ℕ} 0 1 = cc in omega arith)
 found-is e (got (found x) q) {r} {c} h =
     let a : x.record_of ≡ r = cc in
-    let b : cursorAt e q ≡ c = cc in
+    let b : cursor_at e q ≡ c = cc in
     (x, a, record { is = rw (← b); end = rw (← b) })
 found-is e (refused why q) h = absurd (let w : ◌≡◌ {A = ℕ} 0 1 = cc in omega arith)
 
-pub refused-is : (e : ℕ) (y : Read NextPayload) {why : EmdfError} → nextAnswer e y ≡ PayloadStep.Refused why → (q : ℕ) × (y ≡ refused why q)
-unfolding nextAnswer nextStep
+pub refused-is : (e : ℕ) (y : Read NextPayload) {why : EmdfError} → next_answer e y ≡ PayloadStep.Refused why → (q : ℕ) × (y ≡ refused why q)
+unfolding next_answer next_step
 refused-is e (got ended q) h = absurd (let w : ◌≡◌ {A = ℕ} 0 1 = cc in omega arith)
 refused-is e (got (found x) q) h = absurd (let w : ◌≡◌ {A = ℕ} 0 1 = cc in omega arith)
 refused-is e (refused why' q) {why} h = let a : why' ≡ why = cc in (q, rw a)
 
 -- a payload takes bits, and they are there
-pub moves : (s : List ℕ) (e p q : ℕ) (x : Payload) → nextPayload s e p ≡ got (found x) q → (p < q) × (p < bitLimit s e)
-unfolding nextPayload
+pub moves : (s : List ℕ) (e p q : ℕ) (x : Payload) → next_payload s e p ≡ got (found x) q → (p < q) × (p < bit_limit s e)
+unfolding next_payload
 moves s e p q x h =
     taken (bind_inv h) λ p₀ q₀ h₀ t₀.
     let z = at-inv h₀ in
@@ -54,7 +54,7 @@ moves s e p q x h =
     let d = give-inv t₃ in
     let a : q₀ < p₁ = id-moves s e h₁ in
     let b : p₁ < p₂ = after-moves p₀ id s e h₂ in
-    let l : p₁ ≤ bitLimit s e = stands-in (id-law.sound h₁).0 (omega (arith, length-extended 5 id)) in
+    let l : p₁ ≤ bit_limit s e = stands-in (id-law.sound h₁).0 (omega (arith, length-extended 5 id)) in
     (omega (arith, z.to, d.to), omega (arith, z.to))
 
 -- ---- the list is a turn, and then what it says
@@ -63,8 +63,8 @@ unfoldable pub rest : ℕ → NextPayload → Reader (List Payload)
 rest n ended = give []
 rest n (found x) = payloads n >>= λ xs. give (x ∷ xs)
 
-pub payloads-turn : (n : ℕ) (s : List ℕ) (e p : ℕ) → payloads (suc n) s e p ≡ (nextPayload >>= rest n) s e p
-unfolding payloads nextPayload rest
+pub payloads-turn : (n : ℕ) (s : List ℕ) (e p : ℕ) → payloads (suc n) s e p ≡ (next_payload >>= rest n) s e p
+unfolding payloads next_payload rest
 payloads-turn n s e p =
     sym (bind_assoc _ _ (rest n) s e p
     ∙ bind-same _ _ _ s e p (λ p₀ q.
@@ -82,21 +82,21 @@ module _ (s : List ℕ) (at : BitCursor) where
   abbrev p : ℕ
   p = at.position
 
-  pub enough : payloads (bitsRemaining s at) s e p ≡ (nextPayload >>= rest (bitsRemaining s at)) s e p
+  pub enough : payloads (bits_remaining s at) s e p ≡ (next_payload >>= rest (bits_remaining s at)) s e p
   enough =
-      let l : bitLimit s e - p ≤ bitsRemaining s at = omega (arith, remaining-limit s e p) in
-      payloads-enough (bitsRemaining s at) (suc (bitsRemaining s at)) s e p l (omega arith) ∙ payloads-turn (bitsRemaining s at) s e p
+      let l : bit_limit s e - p ≤ bits_remaining s at = omega (arith, remaining-limit s e p) in
+      payloads-enough (bits_remaining s at) (suc (bits_remaining s at)) s e p l (omega arith) ∙ payloads-turn (bits_remaining s at) s e p
 
   -- past a payload there are fewer bits
   pub record Onward (c : BitCursor) : Type 0 where
     pub moves : p < c.position
-    pub less : bitsRemaining s c < bitsRemaining s at
+    pub less : bits_remaining s c < bits_remaining s at
 
-  pub at-payload : {r : PayloadRecord} {c : BitCursor} → nextAnswer e (nextPayload s e p) ≡ PayloadStep.Payload r c → Onward c
+  pub at-payload : {r : PayloadRecord} {c : BitCursor} → next_answer e (next_payload s e p) ≡ PayloadStep.Payload r c → Onward c
   at-payload {r} {c} h =
-      let (x, i, d) = found-is e (nextPayload s e p) h in
+      let (x, i, d) = found-is e (next_payload s e p) h in
       let m = moves s e p c.position x d.is in
-      let a : bitsRemaining s at ≡ bitLimit s e - p = remaining-limit s e p in
-      let b : bitsRemaining s c ≡ bitLimit s c.end - c.position = remaining-limit s c.end c.position in
-      let b' : bitsRemaining s c ≡ bitLimit s e - c.position = b ∙ ap (λ (x : ℕ). bitLimit s x - c.position) d.end in
+      let a : bits_remaining s at ≡ bit_limit s e - p = remaining-limit s e p in
+      let b : bits_remaining s c ≡ bit_limit s c.end - c.position = remaining-limit s c.end c.position in
+      let b' : bits_remaining s c ≡ bit_limit s e - c.position = b ∙ ap (λ (x : ℕ). bit_limit s x - c.position) d.end in
       record { moves = m.0; less = omega (arith, m) }

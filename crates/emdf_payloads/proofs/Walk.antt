@@ -4,12 +4,12 @@ use mathlib.Core.List.{List, [], ◌∷◌}
 use Prim.Native.Nat.{ℕ, zero, suc, ◌<◌}
 use native.Mathlib.Omega.{arith}
 use Rattle.openjoc_bitio.specs.declared.BitCursor.{BitCursor}
-use Rattle.emdf_format.specs.Reader.{got, cursorAt}
+use Rattle.emdf_format.specs.Reader.{got, cursor_at}
 use Rattle.emdf_format.specs.declared.EmdfError.{EmdfError}
 use Rattle.emdf_format.specs.declared.PayloadRecord.{PayloadRecord}
 use Rattle.emdf_format.specs.Reading.{Found, payloads}
 use Rattle.emdf_format.proofs.Standing.{taken, bind_inv, ask-inv, asked, give-inv}
-use Rattle.emdf_payloads.specs.Payloads.{NextPayload, ended, found, nextPayload, nextStep, nextAnswer, skipOf, Listed, stepAt}
+use Rattle.emdf_payloads.specs.Payloads.{NextPayload, ended, found, next_payload, next_step, next_answer, skip_of, Listed, step_at}
 use Rattle.emdf_payloads.specs.declared.PayloadStep.{PayloadStep}
 use Rattle.emdf_payloads.specs.declared.PayloadStep.TheVariants as PayloadStep
 use Rattle.emdf_payloads.specs.declared.SkipStep.TheVariants as SkipStep
@@ -18,7 +18,7 @@ use Rattle.emdf_payloads.proofs.Turns.{rest, payloads-turn, moves}
 -- the payload x, and after it the payloads xs, from the cursor next on
 pub record Stepped (s : List ℕ) (c : BitCursor) (x : Found) (xs : List Found) : Type 0 where
   pub next : BitCursor
-  pub is : nextAnswer c.end (nextPayload s c.end c.position) ≡ PayloadStep.Payload x.record_of next
+  pub is : next_answer c.end (next_payload s c.end c.position) ≡ PayloadStep.Payload x.record_of next
   pub end : next.end ≡ c.end
   pub listed : Listed s next xs
   pub moves : c.position < next.position
@@ -31,32 +31,32 @@ module _ (s : List ℕ) (c : BitCursor) where
   p = c.position
 
   pub listed-step : (x : Found) (xs : List Found) → Listed s c (x ∷ xs) → Stepped s c x xs
-  unfolding payloads rest nextAnswer nextStep
+  unfolding payloads rest next_answer next_step
   listed-step x xs l = go l.bound l.is
     where
       go : (n : ℕ) → payloads n s e p ≡ got (x ∷ xs) l.to → Stepped s c x xs
       go zero h = asked (ask-inv h) λ f t. absurd f
       go (suc n) h = taken (bind_inv (sym (payloads-turn n s e p) ∙ h)) by_turn
         where
-          by_turn : (t : NextPayload) (q : ℕ) → nextPayload s e p ≡ got t q → rest n t s e q ≡ got (x ∷ xs) l.to → Stepped s c x xs
+          by_turn : (t : NextPayload) (q : ℕ) → next_payload s e p ≡ got t q → rest n t s e q ≡ got (x ∷ xs) l.to → Stepped s c x xs
           by_turn ended q h₁ t₁ = absurd (let w : ◌≡◌ {A = ℕ} 0 1 = cc (give-inv t₁).what in omega arith)
           by_turn (found y) q h₁ t₁ =
               taken (bind_inv t₁) λ ys q₂ h₂ t₂.
               let d = give-inv t₂ in
               let a : y ≡ x = cc d.what in
               let b : ys ≡ xs = cc d.what in
-              record { next = cursorAt e q; is = rw (h₁, a); end = refl; listed = record { bound = n; to = q₂; is = rw b at h₂ }; moves = (moves s e p q y h₁).0 }
+              record { next = cursor_at e q; is = rw (h₁, a); end = refl; listed = record { bound = n; to = q₂; is = rw b at h₂ }; moves = (moves s e p q y h₁).0 }
 
-  pub listed-end : Listed s c [] → (next : BitCursor) × (nextAnswer e (nextPayload s e p) ≡ PayloadStep.End next)
-  unfolding payloads rest nextAnswer nextStep
+  pub listed-end : Listed s c [] → (next : BitCursor) × (next_answer e (next_payload s e p) ≡ PayloadStep.End next)
+  unfolding payloads rest next_answer next_step
   listed-end l = go l.bound l.is
     where
-      go : (n : ℕ) → payloads n s e p ≡ got [] l.to → (next : BitCursor) × (nextAnswer e (nextPayload s e p) ≡ PayloadStep.End next)
+      go : (n : ℕ) → payloads n s e p ≡ got [] l.to → (next : BitCursor) × (next_answer e (next_payload s e p) ≡ PayloadStep.End next)
       go zero h = asked (ask-inv h) λ f t. absurd f
       go (suc n) h = taken (bind_inv (sym (payloads-turn n s e p) ∙ h)) by_turn
         where
-          by_turn : (t : NextPayload) (q : ℕ) → nextPayload s e p ≡ got t q → rest n t s e q ≡ got [] l.to → (next : BitCursor) × (nextAnswer e (nextPayload s e p) ≡ PayloadStep.End next)
-          by_turn ended q h₁ t₁ = (cursorAt e q, rw h₁)
+          by_turn : (t : NextPayload) (q : ℕ) → next_payload s e p ≡ got t q → rest n t s e q ≡ got [] l.to → (next : BitCursor) × (next_answer e (next_payload s e p) ≡ PayloadStep.End next)
+          by_turn ended q h₁ t₁ = (cursor_at e q, rw h₁)
           by_turn (found y) q h₁ t₁ =
               taken (bind_inv t₁) λ ys q₂ h₂ t₂.
               absurd (let w : ◌≡◌ {A = ℕ} 0 1 = cc (give-inv t₂).what in omega arith)
@@ -73,7 +73,7 @@ pub record First (s : List ℕ) (c next : BitCursor) (r : PayloadRecord) (xs : L
   pub listed : Listed s next others
 
 module _ (s : List ℕ) (c : BitCursor) where
-  pub step-found : {r : PayloadRecord} {next : BitCursor} (xs : List Found) → Listed s c xs → stepAt s c ≡ PayloadStep.Payload r next → First s c next r xs
+  pub step-found : {r : PayloadRecord} {next : BitCursor} (xs : List Found) → Listed s c xs → step_at s c ≡ PayloadStep.Payload r next → First s c next r xs
   step-found [] l h = let (d, e) = listed-end s c l in absurd (let w : ◌≡◌ {A = ℕ} 0 1 = cc in omega arith)
   step-found {r} {next} (x ∷ xs) l h =
       let d = listed-step s c x xs l in
@@ -82,31 +82,31 @@ module _ (s : List ℕ) (c : BitCursor) where
       let b : d.next ≡ next = cc in
       record { first = x; others = xs; is = refl; record_is = a; end = rw (← b) d.end; listed = rw b at d.listed }
 
-  pub step-ended : {next : BitCursor} (xs : List Found) → Listed s c xs → stepAt s c ≡ PayloadStep.End next → xs ≡ []
+  pub step-ended : {next : BitCursor} (xs : List Found) → Listed s c xs → step_at s c ≡ PayloadStep.End next → xs ≡ []
   step-ended [] l h = refl
   step-ended (x ∷ xs) l h = let d = listed-step s c x xs l in absurd (let w : ◌≡◌ {A = ℕ} 0 1 = cc d.is in omega arith)
 
   -- no payload of a list that is read is refused
-  pub step-refused : {why : EmdfError} (xs : List Found) → Listed s c xs → stepAt s c ≡ PayloadStep.Refused why → ⊥
+  pub step-refused : {why : EmdfError} (xs : List Found) → Listed s c xs → step_at s c ≡ PayloadStep.Refused why → ⊥
   step-refused [] l h = let (d, e) = listed-end s c l in let w : ◌≡◌ {A = ℕ} 0 1 = cc in omega arith
   step-refused (x ∷ xs) l h = let d = listed-step s c x xs l in let w : ◌≡◌ {A = ℕ} 0 1 = cc d.is in omega arith
 
 -- ---- what skipping says of the step
 
-pub skip-past : {id : ℕ} {next : BitCursor} (x : PayloadStep) → skipOf x ≡ SkipStep.Past id next → (r : PayloadRecord) × (x ≡ PayloadStep.Payload r next) × (r.id ≡ id)
-unfolding skipOf
+pub skip-past : {id : ℕ} {next : BitCursor} (x : PayloadStep) → skip_of x ≡ SkipStep.Past id next → (r : PayloadRecord) × (x ≡ PayloadStep.Payload r next) × (r.id ≡ id)
+unfolding skip_of
 skip-past (PayloadStep.Payload r c) h = (r, cc, cc)
 skip-past (PayloadStep.End c) h = absurd (let w : ◌≡◌ {A = ℕ} 0 1 = cc in omega arith)
 skip-past (PayloadStep.Refused why) h = absurd (let w : ◌≡◌ {A = ℕ} 0 1 = cc in omega arith)
 
-pub skip-end : {next : BitCursor} (x : PayloadStep) → skipOf x ≡ SkipStep.End next → x ≡ PayloadStep.End next
-unfolding skipOf
+pub skip-end : {next : BitCursor} (x : PayloadStep) → skip_of x ≡ SkipStep.End next → x ≡ PayloadStep.End next
+unfolding skip_of
 skip-end (PayloadStep.Payload r c) h = absurd (let w : ◌≡◌ {A = ℕ} 0 1 = cc in omega arith)
 skip-end (PayloadStep.End c) h = cc
 skip-end (PayloadStep.Refused why) h = absurd (let w : ◌≡◌ {A = ℕ} 0 1 = cc in omega arith)
 
-pub skip-refused : {why : EmdfError} (x : PayloadStep) → skipOf x ≡ SkipStep.Refused why → x ≡ PayloadStep.Refused why
-unfolding skipOf
+pub skip-refused : {why : EmdfError} (x : PayloadStep) → skip_of x ≡ SkipStep.Refused why → x ≡ PayloadStep.Refused why
+unfolding skip_of
 skip-refused (PayloadStep.Payload r c) h = absurd (let w : ◌≡◌ {A = ℕ} 0 1 = cc in omega arith)
 skip-refused (PayloadStep.End c) h = absurd (let w : ◌≡◌ {A = ℕ} 0 1 = cc in omega arith)
 skip-refused (PayloadStep.Refused why) h = cc

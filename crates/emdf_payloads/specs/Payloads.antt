@@ -1,53 +1,53 @@
 -- The answers of payloads, by what emdf_format's readers find: e is the end of the cursor that was handed in. Assumes nothing.
 use Rattle.std.specs.Prelude.{List, ◌≡◌, ℕ, ◌-◌, ◌/◌, eqb}
 use Rattle.openjoc_bitio.specs.declared.BitCursor.{BitCursor}
-use Rattle.emdf_format.specs.Reader.{Read, got, refused, Reader, ◌>>=◌, give, choose, cursorAt, position, extendedValue}
-use Rattle.emdf_format.specs.Reading.{Found, payloadAfter, payloads}
-use Rattle.emdf_format.specs.Syntax.{extendedGroups}
-use Rattle.emdf_format.specs.Groups.{larger, configGroups}
+use Rattle.emdf_format.specs.Reader.{Read, got, refused, Reader, ◌>>=◌, give, choose, cursor_at, position, extended_value}
+use Rattle.emdf_format.specs.Reading.{Found, payload_after, payloads}
+use Rattle.emdf_format.specs.Syntax.{extended_groups}
+use Rattle.emdf_format.specs.Groups.{larger, config_groups}
 use Rattle.emdf_format.specs.declared.PayloadRecord.{PayloadRecord}
 use Rattle.emdf_payloads.specs.declared.PayloadStep.{PayloadStep}
 use Rattle.emdf_payloads.specs.declared.PayloadStep.TheVariants as PayloadStep
 use Rattle.emdf_payloads.specs.declared.SkipStep.{SkipStep}
 use Rattle.emdf_payloads.specs.declared.SkipStep.TheVariants as SkipStep
 
-unfoldable pub payloadAnswer : ℕ → Read Found → PayloadStep
-payloadAnswer e (got x q) = PayloadStep.Payload x.record_of (cursorAt e q)
-payloadAnswer e (refused why q) = PayloadStep.Refused why
+unfoldable pub payload_answer : ℕ → Read Found → PayloadStep
+payload_answer e (got x q) = PayloadStep.Payload x.record_of (cursor_at e q)
+payload_answer e (refused why q) = PayloadStep.Refused why
 
 -- what stands next in the list of payloads: one turn of emdf_format's payloads
 pub data NextPayload : Type 0 where
   ended : NextPayload
   found : Found → NextPayload
 
-unfoldable pub nextPayload : Reader NextPayload
-nextPayload = do
+unfoldable pub next_payload : Reader NextPayload
+next_payload = do
   p₀ ← position
-  id ← extendedValue 5
-  choose (eqb id 0) (give ended) (do x ← payloadAfter p₀ id; give (found x))
+  id ← extended_value 5
+  choose (eqb id 0) (give ended) (do x ← payload_after p₀ id; give (found x))
 
-unfoldable pub nextStep : NextPayload → ℕ → ℕ → PayloadStep
-nextStep ended e q = PayloadStep.End (cursorAt e q)
-nextStep (found x) e q = PayloadStep.Payload x.record_of (cursorAt e q)
+unfoldable pub next_step : NextPayload → ℕ → ℕ → PayloadStep
+next_step ended e q = PayloadStep.End (cursor_at e q)
+next_step (found x) e q = PayloadStep.Payload x.record_of (cursor_at e q)
 
-unfoldable pub nextAnswer : ℕ → Read NextPayload → PayloadStep
-nextAnswer e (got t q) = nextStep t e q
-nextAnswer e (refused why q) = PayloadStep.Refused why
+unfoldable pub next_answer : ℕ → Read NextPayload → PayloadStep
+next_answer e (got t q) = next_step t e q
+next_answer e (refused why q) = PayloadStep.Refused why
 
 -- what stands at a cursor
-abbrev pub stepAt : List ℕ → BitCursor → PayloadStep
-stepAt s c = nextAnswer c.end (nextPayload s c.end c.position)
+abbrev pub step_at : List ℕ → BitCursor → PayloadStep
+step_at s c = next_answer c.end (next_payload s c.end c.position)
 
 -- the same, of a payload only its id
-unfoldable pub skipOf : PayloadStep → SkipStep
-skipOf (PayloadStep.Payload r c) = SkipStep.Past r.id c
-skipOf (PayloadStep.End c) = SkipStep.End c
-skipOf (PayloadStep.Refused why) = SkipStep.Refused why
+unfoldable pub skip_of : PayloadStep → SkipStep
+skip_of (PayloadStep.Payload r c) = SkipStep.Past r.id c
+skip_of (PayloadStep.End c) = SkipStep.End c
+skip_of (PayloadStep.Refused why) = SkipStep.Refused why
 
 -- the largest number of groups in a payload, by its record: a group of its size takes 9 bits
-unfoldable pub recordGroups : PayloadRecord → ℕ
-recordGroups r =
-    larger (larger (extendedGroups 5 r.id) (configGroups r.config)) ((r.trace.payload_size_end_bit.0 - r.trace.payload_size_start_bit.0) / 9)
+unfoldable pub record_groups : PayloadRecord → ℕ
+record_groups r =
+    larger (larger (extended_groups 5 r.id) (config_groups r.config)) ((r.trace.payload_size_end_bit.0 - r.trace.payload_size_start_bit.0) / 9)
 
 -- from the cursor c on, the payloads xs and then the end of the list
 pub record Listed (s : List ℕ) (c : BitCursor) (xs : List Found) : Type 0 where

@@ -1,10 +1,10 @@
 // Payloads one after another. Each function answers what its definition in emdf_format says; a compact payload is read from words.
 ghost use Rattle.std.specs.Prelude.{◌≡◌, true, ◌+◌, ◌^◌, ◌<◌};
-ghost use Rattle.emdf_format.specs.Reading.{traceOf, payloadAfter};
-ghost use Rattle.openjoc_bitio.specs.Bits.{windowAt};
-ghost use Rattle.emdf_compact.specs.Words.{compactSettings, configLength};
-ghost use Rattle.emdf_payloads.specs.Compact.{CompactAt, SizeWord, compactParts, notCompact, compactRecord};
-ghost use Rattle.emdf_payloads.specs.Payloads.{payloadAnswer, skipOf, stepAt};
+ghost use Rattle.emdf_format.specs.Reading.{trace_of, payload_after};
+ghost use Rattle.openjoc_bitio.specs.Bits.{window_at};
+ghost use Rattle.emdf_compact.specs.Words.{compact_settings, config_length};
+ghost use Rattle.emdf_payloads.specs.Compact.{CompactAt, SizeWord, compact_parts, not_compact, compact_record};
+ghost use Rattle.emdf_payloads.specs.Payloads.{payload_answer, skip_of, step_at};
 
 use emdf_fields::{CountAnswer, FieldAnswer};
 use emdf_format::{EmdfError, EmdfPayloadBitTrace, MAX_SIZE_GROUPS, PayloadRecord};
@@ -39,7 +39,7 @@ pub struct CompactPayload {
 
 // A payload after its id, which starts at bit start: its settings, its size, and past its body.
 fn payload_after(s: &[u8], c: BitCursor, start: usize, id: u64) -> PayloadStep
-    ensures { result ≡ payloadAnswer c.end (payloadAfter start id s.now c.end c.position) }
+    ensures { result ≡ payload_answer c.end (payload_after start id s.now c.end c.position) }
 {
     let position = c.position;
     let end = c.end;
@@ -64,8 +64,8 @@ fn after_compact(
     start: usize,
     id: u64,
 ) -> PayloadStep
-    requires { (position < 2 ^ 61) × (x ≡ windowAt s.now position) × (compactSettings x ≡ true) × (config ≡ configLength x) }
-    ensures { result ≡ payloadAnswer end (payloadAfter start id s.now end position) }
+    requires { (position < 2 ^ 61) × (x ≡ window_at s.now position) × (compact_settings x ≡ true) × (config ≡ config_length x) }
+    ensures { result ≡ payload_answer end (payload_after start id s.now end position) }
 {
     let size = position + config;
     let y = openjoc_bitio::window_at(s, size);
@@ -88,7 +88,7 @@ fn after_compact(
 
 // The same field by field.
 fn after_by_fields(s: &[u8], c: BitCursor, start: usize, id: u64) -> PayloadStep
-    ensures { result ≡ payloadAnswer c.end (payloadAfter start id s.now c.end c.position) }
+    ensures { result ≡ payload_answer c.end (payload_after start id s.now c.end c.position) }
 {
     let a1 = emdf_settings::payload_config(s, c);
     let ConfigAnswer::Config(config, c1) = a1 else {
@@ -108,7 +108,7 @@ fn after_by_fields(s: &[u8], c: BitCursor, start: usize, id: u64) -> PayloadStep
 
 // The parts of a payload adjoin: each ends where the next one starts.
 fn bit_trace(id: usize, config: usize, size: usize, body: usize, end: usize) -> EmdfPayloadBitTrace
-    ensures { result ≡ traceOf id config size body end }
+    ensures { result ≡ trace_of id config size body end }
 {
     EmdfPayloadBitTrace {
         payload_id_start_bit: BitOffset(id),
@@ -124,7 +124,7 @@ fn bit_trace(id: usize, config: usize, size: usize, body: usize, end: usize) -> 
 
 // The next payload, or the end of the list.
 pub fn next_payload(s: &[u8], c: BitCursor) -> PayloadStep
-    ensures { result ≡ stepAt s.now c }
+    ensures { result ≡ step_at s.now c }
 {
     let position = c.position;
     let end = c.end;
@@ -144,7 +144,7 @@ pub fn next_payload(s: &[u8], c: BitCursor) -> PayloadStep
 
 // Past the next payload, for a caller who wants no record of it.
 pub fn skip_payload(s: &[u8], c: BitCursor) -> SkipStep
-    ensures { result ≡ skipOf (stepAt s.now c) }
+    ensures { result ≡ skip_of (step_at s.now c) }
 {
     let position = c.position;
     let end = c.end;
@@ -181,7 +181,7 @@ pub fn compact_at(s: &[u8], position: usize, end: usize) -> CompactPayload
 // The same wherever the end is.
 fn compact_parts(s: &[u8], position: usize) -> CompactPayload
     requires { position < 2 ^ 61 }
-    ensures { result ≡ compactParts s.now position }
+    ensures { result ≡ compact_parts s.now position }
 {
     let word = openjoc_bitio::window_at(s, position);
     let head = emdf_compact::head_length(word) as usize;
@@ -211,7 +211,7 @@ fn compact_parts(s: &[u8], position: usize) -> CompactPayload
 
 // A word that starts with the size after a head of so many bits: the head's own, where it has 18 bits more.
 fn size_word(s: &[u8], word: u64, position: usize, head: usize) -> u64
-    requires { (position < 2 ^ 61) × (head < 2 ^ 7) × (word ≡ windowAt s.now position) }
+    requires { (position < 2 ^ 61) × (head < 2 ^ 7) × (word ≡ window_at s.now position) }
     ensures { SizeWord s.now (position + head) result }
 {
     if head < 40 {
@@ -221,7 +221,7 @@ fn size_word(s: &[u8], word: u64, position: usize, head: usize) -> u64
 }
 
 fn not_compact() -> CompactPayload
-    ensures { result ≡ notCompact }
+    ensures { result ≡ not_compact }
 {
     CompactPayload {
         word: 0,
@@ -234,7 +234,7 @@ fn not_compact() -> CompactPayload
 // What is recorded of a compact payload at a position.
 pub fn compact_record(c: CompactPayload, position: usize) -> PayloadRecord
     requires { (c.head < 2 ^ 8) × (c.size < 2 ^ 7) × (position < 2 ^ 61) × (position + c.length < 2 ^ 64) }
-    ensures { result ≡ compactRecord c position }
+    ensures { result ≡ compact_record c position }
 {
     let size = position + c.head % 128;
     PayloadRecord {
@@ -252,7 +252,7 @@ pub fn compact_record(c: CompactPayload, position: usize) -> PayloadRecord
 
 // The next payload, or the end of the list, field by field.
 pub fn payload_by_fields(s: &[u8], c: BitCursor) -> PayloadStep
-    ensures { result ≡ stepAt s.now c }
+    ensures { result ≡ step_at s.now c }
 {
     let start = c.position;
     let a = emdf_fields::extended_value(s, c, 31, 5);
@@ -266,7 +266,7 @@ pub fn payload_by_fields(s: &[u8], c: BitCursor) -> PayloadStep
 }
 
 fn skipped(step: PayloadStep) -> SkipStep
-    ensures { result ≡ skipOf step }
+    ensures { result ≡ skip_of step }
 {
     match step {
         PayloadStep::Payload(record, next) => SkipStep::Past(record.id, next),

@@ -1,10 +1,10 @@
 // What an edit asks before it writes, and where it cuts its source.
 ghost use Rattle.std.specs.Prelude.{◌≡◌, ◌+◌, ◌-◌, ◌*◌, ◌^◌, ◌<◌, ◌≤◌, length};
-ghost use Rattle.emdf_format.specs.Reading.{traceOf};
-ghost use Rattle.emdf_payloads.specs.Payloads.{stepAt};
+ghost use Rattle.emdf_format.specs.Reading.{trace_of};
+ghost use Rattle.emdf_payloads.specs.Payloads.{step_at};
 ghost use Rattle.openjoc_emdf.specs.Answers.{Opened};
-ghost use Rattle.emdf_plan.specs.Plan.{layout_of, edgeAt, CutIn, measure, plan_of};
-ghost use Rattle.emdf_plan.specs.Walking.{pastStep, pastPayloads, nothingAt, placed_at};
+ghost use Rattle.emdf_plan.specs.Plan.{layout_of, edge_at, CutIn, measure, plan_of};
+ghost use Rattle.emdf_plan.specs.Walking.{past_step, past_payloads, nothing_at, placed_at};
 
 use emdf_format::{EditError, EmdfPayloadBitTrace, MAX_DECLARED};
 use emdf_payloads::{PayloadStep, SkipStep, next_payload, skip_payload};
@@ -114,7 +114,7 @@ fn lay_out(source: &[u8], parsed: ParsedEmdf, first: BitCursor, place: usize) ->
 
 // The cursor past n payloads.
 fn skip_payloads(source: &[u8], c: BitCursor, n: usize) -> BitCursor
-    ensures { result ≡ pastPayloads source.now c n }
+    ensures { result ≡ past_payloads source.now c n }
 {
     let mut at = c;
     let mut left = n;
@@ -127,7 +127,7 @@ fn skip_payloads(source: &[u8], c: BitCursor, n: usize) -> BitCursor
 
 // The cursor past a payload that is found.
 fn past(step: SkipStep, c: BitCursor) -> BitCursor
-    ensures { result ≡ pastStep step c }
+    ensures { result ≡ past_step step c }
 {
     match step {
         SkipStep::Past(_, next) => next,
@@ -148,7 +148,7 @@ fn places_after(place: usize, payloads: usize) -> usize
 
 // What stands at c.
 fn place_at(source: &[u8], c: BitCursor) -> Placed
-    ensures { result ≡ placed_at (stepAt source.now c) c }
+    ensures { result ≡ placed_at (step_at source.now c) c }
 {
     match next_payload(source, c) {
         PayloadStep::Payload(record, next) => {
@@ -161,14 +161,14 @@ fn place_at(source: &[u8], c: BitCursor) -> Placed
 }
 
 fn nothing_at(c: BitCursor) -> Placed
-    ensures { result ≡ nothingAt c }
+    ensures { result ≡ nothing_at c }
 {
     let trace = empty_trace(c.position);
     Placed { trace, next: c }
 }
 
 fn empty_trace(at: usize) -> EmdfPayloadBitTrace
-    ensures { result ≡ traceOf at at at at at }
+    ensures { result ≡ trace_of at at at at at }
 {
     EmdfPayloadBitTrace {
         payload_id_start_bit: BitOffset(at),
@@ -185,7 +185,7 @@ fn empty_trace(at: usize) -> EmdfPayloadBitTrace
 // Where an edge stands.
 fn edge_at(edge: Edge, layout: Layout) -> BitOffset
     requires { layout.codes.0 < 2 ^ 32 }
-    ensures { result ≡ edgeAt edge layout }
+    ensures { result ≡ edge_at edge layout }
 {
     let place = layout.place;
     let codes = layout.codes;

@@ -10,8 +10,8 @@ use lib.ListN.{length}
 use lib.Dec.{leb, eqb}
 use lib.Pow.{high}
 use borrow.Author.Tests.{ltb-true, leb-true, eqb-true, eq-eqb, ne_eqb, le-leb}
-use Rattle.openjoc_bitio.specs.Choice.{if◌then◌else◌}
-use Rattle.openjoc_bitio.specs.Bits.{bitsValue, windowAt}
+use Rattle.std.specs.Prelude.{if◌then◌else◌}
+use Rattle.openjoc_bitio.specs.Bits.{bits_value, window_at}
 use Rattle.openjoc_bitio.proofs.Bits.{value-split, value-range}
 use Rattle.emdf_format.specs.Contents.{◌&◌}
 use Rattle.emdf_format.specs.Edits.{Edit}
@@ -21,18 +21,18 @@ use Rattle.emdf_recipe.specs.declared.RecipeRecord.{RecipeRecord}
 use Rattle.emdf_recipe.specs.declared.Link.{Link}
 use Rattle.emdf_recipe.specs.declared.Link.TheVariants.{Next, Broken}
 use Rattle.emdf_recipe.specs.declared.CheckAnswer.TheVariants.{Edits, Refused}
-use Rattle.emdf_recipe.specs.File.{octetsNumber, firstIndex, recordCount, bodyKind, dropKind, keyKind, recordAt, recordEdit, nextAllowed, recordAllowed, link_of, Recipe, edits, wrong, prepend, follow, chain, recipeOf, editsAfter, checkAnswer}
+use Rattle.emdf_recipe.specs.File.{octets_number, first_index, record_count, body_kind, drop_kind, key_kind, record_at, record_edit, next_allowed, record_allowed, link_of, Recipe, edits, wrong, prepend, follow, chain, recipe_of, edits_after, check_answer}
 
 -- ---- numbers
 
 -- the first octets of a word of 64 bits
-pub number-high : (s : List ℕ) (p n : ℕ) → n ≤ 8 → bitsValue s p 64 / 2 ^ (64 - n * 8) ≡ bitsValue s p (n * 8)
+pub number-high : (s : List ℕ) (p n : ℕ) → n ≤ 8 → bits_value s p 64 / 2 ^ (64 - n * 8) ≡ bits_value s p (n * 8)
 number-high s p n h =
     let e : n * 8 + (64 - n * 8) ≡ 64 = omega arith in
-    ap (λ (w : ℕ). bitsValue s p w / 2 ^ (64 - n * 8)) (sym e) ∙ rw (value-split s p (n * 8) (64 - n * 8)) (high (bitsValue s p (n * 8)) (64 - n * 8) (value-range s (p + n * 8) (64 - n * 8)))
+    ap (λ (w : ℕ). bits_value s p w / 2 ^ (64 - n * 8)) (sym e) ∙ rw (value-split s p (n * 8) (64 - n * 8)) (high (bits_value s p (n * 8)) (64 - n * 8) (value-range s (p + n * 8) (64 - n * 8)))
 
-pub window-number : (s : List ℕ) (at n : ℕ) → n ≤ 8 → windowAt s (at * 8) / 2 ^ (64 - n * 8) ≡ octetsNumber s at n
-unfolding windowAt
+pub window-number : (s : List ℕ) (at n : ℕ) → n ≤ 8 → window_at s (at * 8) / 2 ^ (64 - n * 8) ≡ octets_number s at n
+unfolding window_at
 window-number s at n h = let z : at * 8 % 8 ≡ 0 = omega arith in rw (z, mul-one) (number-high s (at * 8) n h)
 
 -- what a record's numbers can be
@@ -41,8 +41,8 @@ pub record Small (e : RecipeRecord) : Type 0 where
   pub offset : e.offset < 4294967296
   pub size : e.length < 4294967296
 
-pub record-small : (s : List ℕ) (i : ℕ) → Small (recordAt s i)
-unfolding recordAt
+pub record-small : (s : List ℕ) (i : ℕ) → Small (record_at s i)
+unfolding record_at
 record-small s i = record { next = value-range s _ 16; offset = value-range s _ 32; size = value-range s _ 32 }
 
 -- ---- a record's questions
@@ -50,9 +50,9 @@ record-small s i = record { next = value-range s _ 16; offset = value-range s _ 
 -- what is known of a record whose link holds
 pub record Linked (s : List ℕ) (count i n : ℕ) : Type 0 where
   pub inside : 4 + 16 * i ≤ length s
-  pub rising : nextAllowed count i n ≡ true
-  pub allowed : recordAllowed (length s) (recordAt s i) ≡ true
-  pub next : (recordAt s i).next ≡ n
+  pub rising : next_allowed count i n ≡ true
+  pub allowed : record_allowed (length s) (record_at s i) ≡ true
+  pub next : (record_at s i).next ≡ n
 
 three : (t u v : Bool) (m n : ℕ)
     → (if t then (if u then (if v then Next m else Broken InvalidRecord) else Broken BrokenChain) else Broken BrokenChain) ≡ Next n
@@ -65,7 +65,7 @@ three false u v m n h = absurd (let z : ◌≡◌ {A = ℕ} 0 1 = cc in omega ar
 pub link-next : (s : List ℕ) (count i n : ℕ) → link_of s count i ≡ Next n → Linked s count i n
 unfolding link_of
 link-next s count i n h =
-    let (a, b, c, d) = three (leb (4 + 16 * i) (length s)) (nextAllowed count i (recordAt s i).next) (recordAllowed (length s) (recordAt s i)) (recordAt s i).next n h in
+    let (a, b, c, d) = three (leb (4 + 16 * i) (length s)) (next_allowed count i (record_at s i).next) (record_allowed (length s) (record_at s i)) (record_at s i).next n h in
     record { inside = leb-true _ _ a; rising = rw d at b; allowed = c; next = d }
 
 both : (t u : Bool) → (t & u) ≡ true → (t ≡ true) × (u ≡ true)
@@ -80,19 +80,19 @@ otherwise false u h k = h
 -- what is known of a record that has data
 pub record Data (n : ℕ) (e : RecipeRecord) : Type 0 where
   pub inside : e.offset + e.length ≤ n
-  pub key : (e.kind ≡ bodyKind → ⊥) → e.length ≡ 8
+  pub key : (e.kind ≡ body_kind → ⊥) → e.length ≡ 8
 
-pub has-data : (n : ℕ) (e : RecipeRecord) → recordAllowed n e ≡ true → (e.kind ≡ dropKind → ⊥) → Data n e
-unfolding recordAllowed
+pub has-data : (n : ℕ) (e : RecipeRecord) → record_allowed n e ≡ true → (e.kind ≡ drop_kind → ⊥) → Data n e
+unfolding record_allowed
 has-data n e h k =
     let rest = (both _ _ h).1 in
     let (x, y) = both _ _ (otherwise _ _ rest (ne_eqb _ _ k)) in
     record { inside = leb-true _ _ x; key = λ l. eqb-true _ _ (both _ _ (otherwise _ _ y (ne_eqb _ _ l))).1 }
 
 -- the last question, of a key
-pub allowed-key : (n : ℕ) (e : RecipeRecord) → e.zero ≡ 0 → (e.kind ≡ dropKind → ⊥) → e.offset + e.length ≤ n → (e.kind ≡ bodyKind → ⊥) → e.kind ≡ keyKind
-    → eqb e.length 8 ≡ recordAllowed n e
-unfolding recordAllowed ◌&◌
+pub allowed-key : (n : ℕ) (e : RecipeRecord) → e.zero ≡ 0 → (e.kind ≡ drop_kind → ⊥) → e.offset + e.length ≤ n → (e.kind ≡ body_kind → ⊥) → e.kind ≡ key_kind
+    → eqb e.length 8 ≡ record_allowed n e
+unfolding record_allowed ◌&◌
 allowed-key n e z d i b k = simp (eq-eqb _ _ z, ne_eqb _ _ d, le-leb _ _ i, ne_eqb _ _ b, eq-eqb _ _ k)
 
 -- ---- the numbers rise, so a chain ends
@@ -108,8 +108,8 @@ pub record Above (count i n : ℕ) : Type 0 where
   pub more : (n ≡ 0 → ⊥) → i < n
   pub falls : above count n < above count i
 
-pub rises-above : (count i n : ℕ) → (i ≡ 0 → ⊥) → i ≤ count → nextAllowed count i n ≡ true → Above count i n
-unfolding above nextAllowed
+pub rises-above : (count i n : ℕ) → (i ≡ 0 → ⊥) → i ≤ count → next_allowed count i n ≡ true → Above count i n
+unfolding above next_allowed
 rises-above count zero n k l h = absurd (k refl)
 rises-above count (suc i) zero k l h = record { low = omega arith; more = λ z. absurd (z refl); falls = omega arith }
 rises-above count (suc i) (suc n) k l h =
@@ -126,19 +126,19 @@ pub record Going (s : List ℕ) (count i before : ℕ) : Type 0 where
   pub low : i ≤ count
   pub few : (i ≡ 0 → ⊥) → before < i
   pub enough : (i ≡ 0 → ⊥) → count < i + more
-  pub rest : editsAfter before (chain more s count i) ≡ checkAnswer (recipeOf s)
+  pub rest : edits_after before (chain more s count i) ≡ check_answer (recipe_of s)
 
-pub going_start : (s : List ℕ) → 4 ≤ length s → firstIndex s ≤ recordCount s → Going s (recordCount s) (firstIndex s) 0
-unfolding recipeOf
-going_start s h k = record { more = recordCount s; low = k; few = λ z. omega arith; enough = λ z. omega arith; rest = simp (le-leb 4 (length s) h, le-leb _ _ k) }
+pub going_start : (s : List ℕ) → 4 ≤ length s → first_index s ≤ record_count s → Going s (record_count s) (first_index s) 0
+unfolding recipe_of
+going_start s h k = record { more = record_count s; low = k; few = λ z. omega arith; enough = λ z. omega arith; rest = simp (le-leb 4 (length s) h, le-leb _ _ k) }
 
 chain-on : (more : ℕ) (s : List ℕ) (count i : ℕ) → (i ≡ 0 → ⊥)
-    → chain (suc more) s count i ≡ follow (link_of s count i) (recordEdit s (recordAt s i)) (chain more s count)
+    → chain (suc more) s count i ≡ follow (link_of s count i) (record_edit s (record_at s i)) (chain more s count)
 unfolding chain
 chain-on more s count i k = simp (ne_eqb i 0 k)
 
-after-prepend : (n : ℕ) (e : Edit) (r : Recipe) → editsAfter n (prepend e r) ≡ editsAfter (n + 1) r
-unfolding editsAfter prepend
+after-prepend : (n : ℕ) (e : Edit) (r : Recipe) → edits_after n (prepend e r) ≡ edits_after (n + 1) r
+unfolding edits_after prepend
 after-prepend n e (edits es) = let z : n + suc (length es) ≡ n + 1 + length es = omega arith in rw z
 after-prepend n e (wrong why) = refl
 
@@ -150,21 +150,21 @@ module _ (s : List ℕ) (count i before : ℕ) (g : Going s count i before) (k :
       a : Above count i n
       a = rises-above count i n k g.low (link-next s count i n h).rising
 
-      by : (more : ℕ) → count < i + more → editsAfter before (chain more s count i) ≡ checkAnswer (recipeOf s) → Going s count n (before + 1)
+      by : (more : ℕ) → count < i + more → edits_after before (chain more s count i) ≡ check_answer (recipe_of s) → Going s count n (before + 1)
       by zero e r = absurd (omega (arith, g.low))
       by (suc m) e r = record {
         more = m;
         low = a.low;
         few = λ z. let l = a.more z in omega (arith, g.few k);
         enough = λ z. let l = a.more z in omega arith;
-        rest = sym (after-prepend before (recordEdit s (recordAt s i)) (chain m s count n)) ∙ (rw (chain-on m s count i k, h) at r);
+        rest = sym (after-prepend before (record_edit s (record_at s i)) (chain m s count n)) ∙ (rw (chain-on m s count i k, h) at r);
       }
 
-  pub going-broken : (why : RecipeError) → link_of s count i ≡ Broken why → checkAnswer (recipeOf s) ≡ Refused why
-  unfolding follow editsAfter
+  pub going-broken : (why : RecipeError) → link_of s count i ≡ Broken why → check_answer (recipe_of s) ≡ Refused why
+  unfolding follow edits_after
   going-broken why h = by g.more (g.enough k) g.rest
     where
-      by : (more : ℕ) → count < i + more → editsAfter before (chain more s count i) ≡ checkAnswer (recipeOf s) → checkAnswer (recipeOf s) ≡ Refused why
+      by : (more : ℕ) → count < i + more → edits_after before (chain more s count i) ≡ check_answer (recipe_of s) → check_answer (recipe_of s) ≡ Refused why
       by zero e r = absurd (omega (arith, g.low))
       by (suc m) e r = sym (rw (chain-on m s count i k, h) at r)
 
@@ -173,8 +173,8 @@ unfolding chain
 chain-end zero s count = refl
 chain-end (suc more) s count = refl
 
-pub going_end : (s : List ℕ) (count i before : ℕ) → Going s count i before → i ≡ 0 → checkAnswer (recipeOf s) ≡ Edits before
-unfolding editsAfter
+pub going_end : (s : List ℕ) (count i before : ℕ) → Going s count i before → i ≡ 0 → check_answer (recipe_of s) ≡ Edits before
+unfolding edits_after
 going_end s count i before g h = sym (rw (h, chain-end g.more s count, add-zero) at g.rest)
 
 -- ---- the same, of a chain that was checked
@@ -182,22 +182,22 @@ going_end s count i before g h = sym (rw (h, chain-end g.more s count, add-zero)
 pub record Chained (s : List ℕ) (count i : ℕ) (es : List Edit) : Type 0 where
   pub more : ℕ
   pub rest : List Edit
-  pub linked : Linked s count i (recordAt s i).next
-  pub chained : chain more s count (recordAt s i).next ≡ edits rest
-  pub split : es ≡ recordEdit s (recordAt s i) ∷ rest
+  pub linked : Linked s count i (record_at s i).next
+  pub chained : chain more s count (record_at s i).next ≡ edits rest
+  pub split : es ≡ record_edit s (record_at s i) ∷ rest
 
 pub chained-on : (more : ℕ) (s : List ℕ) (count i : ℕ) (es : List Edit) → (i ≡ 0 → ⊥) → chain more s count i ≡ edits es → Chained s count i es
 unfolding chain prepend follow
 chained-on zero s count i es k h = absurd (let w = simp (ne_eqb i 0 k) at h in let z : ◌≡◌ {A = ℕ} 0 1 = cc in omega arith)
 chained-on (suc m) s count i es k h = by (link_of s count i) refl (rw (chain-on m s count i k) at h)
   where
-    with-next : (n : ℕ) (r : Recipe) → chain m s count n ≡ r → link_of s count i ≡ Next n → prepend (recordEdit s (recordAt s i)) r ≡ edits es → Chained s count i es
+    with-next : (n : ℕ) (r : Recipe) → chain m s count n ≡ r → link_of s count i ≡ Next n → prepend (record_edit s (record_at s i)) r ≡ edits es → Chained s count i es
     with-next n (edits rest) e l p =
         let f = link-next s count i n l in
         record { more = m; rest = rest; linked = rw f.next f; chained = rw f.next e; split = cc }
     with-next n (wrong why) e l p = absurd (let z : ◌≡◌ {A = ℕ} 0 1 = cc in omega arith)
 
-    by : (l : Link) → link_of s count i ≡ l → follow l (recordEdit s (recordAt s i)) (chain m s count) ≡ edits es → Chained s count i es
+    by : (l : Link) → link_of s count i ≡ l → follow l (record_edit s (record_at s i)) (chain m s count) ≡ edits es → Chained s count i es
     by (Next n) e p = with-next n (chain m s count n) refl e p
     by (Broken why) e p = absurd (let z : ◌≡◌ {A = ℕ} 0 1 = cc in omega arith)
 
@@ -205,17 +205,17 @@ chained-on (suc m) s count i es k h = by (link_of s count i) refl (rw (chain-on 
 pub record Whole (s : List ℕ) (n : ℕ) : Type 0 where
   pub es : List Edit
   pub size : 4 ≤ length s
-  pub low : firstIndex s ≤ recordCount s
-  pub chained : chain (recordCount s) s (recordCount s) (firstIndex s) ≡ edits es
-  pub whole : recipeOf s ≡ edits es
+  pub low : first_index s ≤ record_count s
+  pub chained : chain (record_count s) s (record_count s) (first_index s) ≡ edits es
+  pub whole : recipe_of s ≡ edits es
   pub count : length es ≡ n
 
-pub checked-whole : (s : List ℕ) (n : ℕ) → checkAnswer (recipeOf s) ≡ Edits n → Whole s n
-unfolding recipeOf editsAfter
-checked-whole s n h = by (leb 4 (length s)) refl (leb (firstIndex s) (recordCount s)) refl (chain (recordCount s) s (recordCount s) (firstIndex s)) refl h
+pub checked-whole : (s : List ℕ) (n : ℕ) → check_answer (recipe_of s) ≡ Edits n → Whole s n
+unfolding recipe_of edits_after
+checked-whole s n h = by (leb 4 (length s)) refl (leb (first_index s) (record_count s)) refl (chain (record_count s) s (record_count s) (first_index s)) refl h
   where
-    by : (t : Bool) → leb 4 (length s) ≡ t → (u : Bool) → leb (firstIndex s) (recordCount s) ≡ u → (r : Recipe) → chain (recordCount s) s (recordCount s) (firstIndex s) ≡ r
-        → editsAfter 0 (if t then (if u then r else wrong BrokenChain) else wrong BrokenChain) ≡ Edits n → Whole s n
+    by : (t : Bool) → leb 4 (length s) ≡ t → (u : Bool) → leb (first_index s) (record_count s) ≡ u → (r : Recipe) → chain (record_count s) s (record_count s) (first_index s) ≡ r
+        → edits_after 0 (if t then (if u then r else wrong BrokenChain) else wrong BrokenChain) ≡ Edits n → Whole s n
     by true a true b (edits es) c k = record { es = es; size = leb-true _ _ a; low = leb-true _ _ b; chained = c; whole = simp (a, b, c); count = let z : 0 + length es ≡ n = cc in omega arith }
     by true a true b (wrong why) c k = absurd (let z : ◌≡◌ {A = ℕ} 0 1 = cc in omega arith)
     by true a false b r c k = absurd (let z : ◌≡◌ {A = ℕ} 0 1 = cc in omega arith)
@@ -231,12 +231,12 @@ ends : (m n : ℕ) (s : List ℕ) (count i : ℕ) → i ≡ 0 → chain m s coun
 ends m n s count i h = rw h (chain-end m s count ∙ sym (chain-end n s count))
 
 same-follow : (s : List ℕ) (count i : ℕ) (f g : ℕ → Recipe) → (i ≡ 0 → ⊥) → i ≤ count → ((n : ℕ) → Above count i n → f n ≡ g n)
-    → follow (link_of s count i) (recordEdit s (recordAt s i)) f ≡ follow (link_of s count i) (recordEdit s (recordAt s i)) g
+    → follow (link_of s count i) (record_edit s (record_at s i)) f ≡ follow (link_of s count i) (record_edit s (record_at s i)) g
 unfolding follow
 same-follow s count i f g k l same = by (link_of s count i) refl
   where
-    by : (x : Link) → link_of s count i ≡ x → follow x (recordEdit s (recordAt s i)) f ≡ follow x (recordEdit s (recordAt s i)) g
-    by (Next n) e = ap (λ (r : Recipe). prepend (recordEdit s (recordAt s i)) r) (same n (rises-above count i n k l (link-next s count i n e).rising))
+    by : (x : Link) → link_of s count i ≡ x → follow x (record_edit s (record_at s i)) f ≡ follow x (record_edit s (record_at s i)) g
+    by (Next n) e = ap (λ (r : Recipe). prepend (record_edit s (record_at s i)) r) (same n (rises-above count i n k l (link-next s count i n e).rising))
     by (Broken why) e = refl
 
 pub same-chain : (m n : ℕ) (s : List ℕ) (count i : ℕ) → i ≤ count → Enough count i m → Enough count i n → chain m s count i ≡ chain n s count i

@@ -1,6 +1,6 @@
 // A recipe of edits on file: its records, and the check of its whole chain, before any edit.
 ghost use Rattle.std.specs.Prelude.{◌≡◌, ◌^◌, ◌<◌, ◌≤◌};
-ghost use Rattle.emdf_recipe.specs.File.{octetsNumber, recordAt, nextAllowed, recordAllowed, link_of, recipeOf, checkAnswer};
+ghost use Rattle.emdf_recipe.specs.File.{octets_number, record_at, next_allowed, record_allowed, link_of, recipe_of, check_answer};
 
 use emdf_format::RecipeError;
 
@@ -45,14 +45,14 @@ const HEAD: usize = 4;
 // The big-endian number of so many octets from octet at on.
 pub fn octets_number(s: &[u8], at: usize, octets: usize) -> u64
     requires { (at < 2 ^ 61) × (0 < octets) × (octets ≤ 8) }
-    ensures { result ≡ octetsNumber s.now at octets }
+    ensures { result ≡ octets_number s.now at octets }
 {
     openjoc_bitio::window_at(s, at * 8) >> (64 - octets * 8)
 }
 
 pub fn record_at(s: &[u8], i: usize) -> RecipeRecord
     requires { (0 < i) × (i < 65536) }
-    ensures { result ≡ recordAt s.now i }
+    ensures { result ≡ record_at s.now i }
 {
     let at = 16 * i - 12;
     RecipeRecord {
@@ -67,7 +67,7 @@ pub fn record_at(s: &[u8], i: usize) -> RecipeRecord
 
 // Whether a record's next index ends the chain, or leads on to a later record.
 fn next_allowed(count: usize, i: usize, next: usize) -> bool
-    ensures { result ≡ nextAllowed count i next }
+    ensures { result ≡ next_allowed count i next }
 {
     if next == 0 {
         return true;
@@ -81,7 +81,7 @@ fn next_allowed(count: usize, i: usize, next: usize) -> bool
 // Whether a record in a file of n bytes can be run.
 fn record_allowed(n: usize, e: RecipeRecord) -> bool
     requires { (e.offset < 4294967296) × (e.length < 4294967296) }
-    ensures { result ≡ recordAllowed n e }
+    ensures { result ≡ record_allowed n e }
 {
     if e.zero != 0 {
         return false;
@@ -121,7 +121,7 @@ fn link_at(s: &[u8], count: usize, i: usize) -> Link
 
 // The whole chain.
 pub fn check_recipe(file: &[u8]) -> CheckAnswer
-    ensures { result ≡ checkAnswer (recipeOf file.now) }
+    ensures { result ≡ check_answer (recipe_of file.now) }
 {
     if file.len() < HEAD {
         return CheckAnswer::Refused(RecipeError::BrokenChain);

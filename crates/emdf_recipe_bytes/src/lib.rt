@@ -1,21 +1,21 @@
 // The answers of the recipe calls in a host's form.
 ghost use Rattle.std.specs.Prelude.{◌≡◌};
 ghost use Rattle.emdf_answers.specs.Form.{words};
-ghost use Rattle.emdf_answers.specs.Replies.{twoReply, Replies};
-ghost use Rattle.emdf_recipe_bytes.specs.Recipes.{checkedFigures, holderNumber, ranReply};
+ghost use Rattle.emdf_answers.specs.Replies.{two_reply, Replies};
+ghost use Rattle.emdf_recipe_bytes.specs.Recipes.{checked_figures, holder_number, ran_reply};
 
 use emdf_format::Figures;
 use emdf_recipe::CheckAnswer;
 use emdf_recipe_run::{Holder, RecipeAnswer};
 
 pub fn put_checked(answer: &mut [u8; 16], checked: CheckAnswer) -> u32
-    ensures { Replies (twoReply (checkedFigures checked)) result answer.new }
+    ensures { Replies (two_reply (checked_figures checked)) result answer.new }
 {
     emdf_rows::put_two(answer, checked_figures(checked))
 }
 
 fn checked_figures(checked: CheckAnswer) -> Figures
-    ensures { result ≡ checkedFigures checked }
+    ensures { result ≡ checked_figures checked }
 {
     match checked {
         CheckAnswer::Edits(edits) => Figures {
@@ -30,7 +30,7 @@ fn checked_figures(checked: CheckAnswer) -> Figures
 }
 
 fn holder_number(holder: Holder) -> u64
-    ensures { result ≡ holderNumber holder }
+    ensures { result ≡ holder_number holder }
 {
     match holder {
         Holder::Start => 0,
@@ -47,7 +47,7 @@ fn put_three(answer: &mut [u8; 24], number: u32, values: [u64; 3]) -> u32
 }
 
 pub fn put_ran(answer: &mut [u8; 24], ran: RecipeAnswer) -> u32
-    ensures { Replies (ranReply ran) result answer.new }
+    ensures { Replies (ran_reply ran) result answer.new }
 {
     match ran {
         RecipeAnswer::Ran(a) => {

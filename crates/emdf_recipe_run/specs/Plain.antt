@@ -1,12 +1,12 @@
 -- A recipe's run on plain contents, which is told the list of edits and how long the two buffers are. Assumes nothing.
 use Rattle.std.specs.Prelude.{List, [], ◌∷◌, ℕ}
 use Rattle.emdf_format.specs.Contents.{Contents}
-use Rattle.emdf_format.specs.Edits.{Edit, carrierLength, Outcome, outcome}
+use Rattle.emdf_format.specs.Edits.{Edit, carrier_length, Outcome, outcome}
 use Rattle.emdf_recipe.specs.File.{Recipe, edits, wrong}
 use Rattle.emdf_recipe_run.specs.declared.Holder.{Holder}
 use Rattle.emdf_recipe_run.specs.declared.Holder.TheVariants.{Start, First, Second}
 use Rattle.emdf_recipe_run.specs.declared.RunAnswer.{RunAnswer}
-use Rattle.emdf_recipe_run.specs.Runs.{counted, begunAnswer}
+use Rattle.emdf_recipe_run.specs.Runs.{counted, begun_answer}
 
 pub record PlainRun : Type 0 where
   pub answer : RunAnswer
@@ -18,18 +18,18 @@ room Start first second = first
 room First first second = second
 room Second first second = first
 
-unfoldable pub plainEdit : ℕ → ℕ → Edit → PlainRun → PlainRun
-plainEdit first second e r =
+unfoldable pub plain_edit : ℕ → ℕ → Edit → PlainRun → PlainRun
+plain_edit first second e r =
     let o : Outcome = outcome r.contents (record { edit = e; room = room r.answer.holder first second }) in
     record { answer = counted r.answer o.answer; contents = o.contents }
 
-unfoldable pub plainEdits : ℕ → ℕ → List Edit → PlainRun → PlainRun
-plainEdits first second [] r = r
-plainEdits first second (e ∷ es) r = plainEdits first second es (plainEdit first second e r)
+unfoldable pub plain_edits : ℕ → ℕ → List Edit → PlainRun → PlainRun
+plain_edits first second [] r = r
+plain_edits first second (e ∷ es) r = plain_edits first second es (plain_edit first second e r)
 
-unfoldable pub plainBegun : Contents → PlainRun
-plainBegun c = record { answer = begunAnswer (carrierLength c); contents = c }
+unfoldable pub plain_begun : Contents → PlainRun
+plain_begun c = record { answer = begun_answer (carrier_length c); contents = c }
 
-unfoldable pub plainRecipe : Recipe → Contents → ℕ → ℕ → PlainRun
-plainRecipe (edits es) c first second = plainEdits first second es (plainBegun c)
-plainRecipe (wrong why) c first second = plainBegun c
+unfoldable pub plain_recipe : Recipe → Contents → ℕ → ℕ → PlainRun
+plain_recipe (edits es) c first second = plain_edits first second es (plain_begun c)
+plain_recipe (wrong why) c first second = plain_begun c

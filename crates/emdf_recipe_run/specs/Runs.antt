@@ -4,7 +4,7 @@ use Rattle.emdf_format.specs.declared.EditAnswer.{EditAnswer}
 use Rattle.emdf_format.specs.declared.EditAnswer.TheVariants.{Written}
 use Rattle.emdf_format.specs.declared.EditAnswer.TheVariants as EditAnswer
 use Rattle.emdf_format.specs.Edits.{Edit, Edited, edited}
-use Rattle.emdf_recipe.specs.File.{Recipe, edits, wrong, recipeOf}
+use Rattle.emdf_recipe.specs.File.{Recipe, edits, wrong, recipe_of}
 use Rattle.emdf_recipe_run.specs.declared.Holder.{Holder}
 use Rattle.emdf_recipe_run.specs.declared.Holder.TheVariants.{Start, First, Second}
 use Rattle.emdf_recipe_run.specs.declared.RunAnswer.{RunAnswer}
@@ -35,15 +35,15 @@ other First = Second
 other Second = First
 
 -- both buffers, with dst for the one that was written
-unfoldable pub firstAfter : Holder → List ℕ → List ℕ → List ℕ
-firstAfter Start dst a = dst
-firstAfter First dst a = a
-firstAfter Second dst a = dst
+unfoldable pub first_after : Holder → List ℕ → List ℕ → List ℕ
+first_after Start dst a = dst
+first_after First dst a = a
+first_after Second dst a = dst
 
-unfoldable pub secondAfter : Holder → List ℕ → List ℕ → List ℕ
-secondAfter Start dst b = b
-secondAfter First dst b = dst
-secondAfter Second dst b = b
+unfoldable pub second_after : Holder → List ℕ → List ℕ → List ℕ
+second_after Start dst b = b
+second_after First dst b = dst
+second_after Second dst b = b
 
 unfoldable pub counted : RunAnswer → EditAnswer → RunAnswer
 counted r (Written n) = record { holder = other r.holder; length = n; refused = r.refused }
@@ -55,28 +55,28 @@ held start r = source r.answer.holder r.answer.length.0 start r.first r.second
 abbrev pub aim : Run → List ℕ
 aim r = target r.answer.holder r.first r.second
 
-unfoldable pub ranEdit : List ℕ → Edit → Run → Run
-ranEdit start e r =
+unfoldable pub ran_edit : List ℕ → Edit → Run → Run
+ran_edit start e r =
     let o : Edited = edited e (held start r) (aim r) in
     record {
       answer = counted r.answer o.answer;
-      first = firstAfter r.answer.holder o.destination r.first;
-      second = secondAfter r.answer.holder o.destination r.second;
+      first = first_after r.answer.holder o.destination r.first;
+      second = second_after r.answer.holder o.destination r.second;
     }
 
-unfoldable pub ranEdits : List ℕ → List Edit → Run → Run
-ranEdits start [] r = r
-ranEdits start (e ∷ es) r = ranEdits start es (ranEdit start e r)
+unfoldable pub ran_edits : List ℕ → List Edit → Run → Run
+ran_edits start [] r = r
+ran_edits start (e ∷ es) r = ran_edits start es (ran_edit start e r)
 
-unfoldable pub begunAnswer : ℕ → RunAnswer
-begunAnswer n = record { holder = Start; length = record { 0 = n }; refused = 0 }
+unfoldable pub begun_answer : ℕ → RunAnswer
+begun_answer n = record { holder = Start; length = record { 0 = n }; refused = 0 }
 
 unfoldable pub begun : List ℕ → List ℕ → List ℕ → Run
-begun start a b = record { answer = begunAnswer (length start); first = a; second = b }
+begun start a b = record { answer = begun_answer (length start); first = a; second = b }
 
 -- a recipe's run; one that is wrong runs no edit
 unfoldable pub run_of : Recipe → List ℕ → List ℕ → List ℕ → Run
-run_of (edits es) start a b = ranEdits start es (begun start a b)
+run_of (edits es) start a b = ran_edits start es (begun start a b)
 run_of (wrong why) start a b = begun start a b
 
 unfoldable pub answer_of : Recipe → RunAnswer → RecipeAnswer
@@ -99,6 +99,6 @@ pub record IsRun (r : Run) (answer : RunAnswer) (a b : List ℕ) : Type 0 where
 
 -- what the call that runs a recipe promises
 pub record RecipeCalled (start file a₀ b₀ : List ℕ) (answer : RecipeAnswer) (a b : List ℕ) : Type 0 where
-  pub answered : answer ≡ answer_of (recipeOf file) (run_of (recipeOf file) start a₀ b₀).answer
-  pub first : a ≡ (run_of (recipeOf file) start a₀ b₀).first
-  pub second : b ≡ (run_of (recipeOf file) start a₀ b₀).second
+  pub answered : answer ≡ answer_of (recipe_of file) (run_of (recipe_of file) start a₀ b₀).answer
+  pub first : a ≡ (run_of (recipe_of file) start a₀ b₀).first
+  pub second : b ≡ (run_of (recipe_of file) start a₀ b₀).second

@@ -1,9 +1,9 @@
 // A recipe of edits on file, run over two lent buffers.
 ghost use Rattle.std.specs.Prelude.{◌≡◌, [], ◌<◌};
-ghost use Rattle.emdf_request.specs.Requests.{editOf};
-ghost use Rattle.emdf_recipe.specs.File.{edits, recipeOf, editsOf};
-ghost use Rattle.emdf_recipe_run.specs.Requests.{requestOf, span_of};
-ghost use Rattle.emdf_recipe_run.specs.Runs.{run_of, ranEdit, counted, other, Lies, IsRun, RecipeCalled};
+ghost use Rattle.emdf_request.specs.Requests.{edit_of};
+ghost use Rattle.emdf_recipe.specs.File.{edits, recipe_of, edits_of};
+ghost use Rattle.emdf_recipe_run.specs.Requests.{request_of, span_of};
+ghost use Rattle.emdf_recipe_run.specs.Runs.{run_of, ran_edit, counted, other, Lies, IsRun, RecipeCalled};
 
 use emdf_format::{EditAnswer, RecipeError};
 use emdf_recipe::{CheckAnswer, RecipeRecord};
@@ -54,7 +54,7 @@ fn span_of(e: RecipeRecord) -> Span
 
 fn request_of(file: &[u8], e: RecipeRecord) -> Request
     requires { e.offset < 4294967296 }
-    ensures { result ≡ requestOf file.now e }
+    ensures { result ≡ request_of file.now e }
 {
     if e.kind == emdf_recipe::BODY {
         return Request::Body(e.place);
@@ -107,7 +107,7 @@ fn run_edit(
     state: RunAnswer,
 ) -> RunAnswer
     requires { Lies state.holder state.length.0 first.old second.old × (state.refused < 65536) }
-    ensures { IsRun (ranEdit start.now (editOf request octets.now []) (record { answer = state; first = first.old; second = second.old })) result first.new second.new }
+    ensures { IsRun (ran_edit start.now (edit_of request octets.now []) (record { answer = state; first = first.old; second = second.old })) result first.new second.new }
 {
     let holder = state.holder;
     let length = state.length;
@@ -128,8 +128,8 @@ fn run_edit(
 
 // Every edit of a chain that was checked.
 fn run_chain(start: &[u8], file: &[u8], first: &mut [u8], second: &mut [u8]) -> RunAnswer
-    requires { recipeOf file.now ≡ edits (editsOf (recipeOf file.now)) }
-    ensures { IsRun (run_of (recipeOf file.now) start.now first.old second.old) result first.new second.new }
+    requires { recipe_of file.now ≡ edits (edits_of (recipe_of file.now)) }
+    ensures { IsRun (run_of (recipe_of file.now) start.now first.old second.old) result first.new second.new }
 {
     let mut i = emdf_recipe::octets_number(file, 0, 2) as usize;
     let mut state = RunAnswer {

@@ -11,23 +11,23 @@ use Rattle.openjoc_bitio.specs.declared.BitCursor.{BitCursor}
 use Rattle.emdf_format.specs.Reading.{Found, reading}
 use Rattle.emdf_format.specs.Ordinals.{ids_in, rows_from}
 use Rattle.emdf_format.proofs.Ordinals.{length-ids-in}
-use Rattle.emdf_format.specs.Calls.{Records, in_table, tableAfter}
+use Rattle.emdf_format.specs.Calls.{Records, in_table, table_after}
 use Rattle.emdf_format.specs.declared.PayloadRecord.{PayloadRecord}
 use Rattle.emdf_format.specs.declared.PayloadRow.{PayloadRow}
 use Rattle.emdf_payloads.specs.declared.PayloadStep.TheVariants as PayloadStep
-use Rattle.emdf_payloads.specs.Payloads.{stepAt}
-use Rattle.emdf_ordinals.specs.Rows.{slot_of, searched, slotsWith}
+use Rattle.emdf_payloads.specs.Payloads.{step_at}
+use Rattle.emdf_ordinals.specs.Rows.{slot_of, searched, slots_with}
 use Rattle.emdf_ordinals.proofs.Rows.{Tracks, tracks-none, tracks-next}
-use Rattle.emdf_records_plan.specs.Records.{recordsPlan}
+use Rattle.emdf_records_plan.specs.Records.{records_plan}
 use Rattle.emdf_records_plan.specs.declared.RecordsPlan.{RecordsPlan}
 use Rattle.emdf_records_plan.proofs.Records.{inside, Left, rest, Turned, turned, planned, plan-is, filled}
-use Rattle.emdf_records_row.specs.Row.{last_of, rowAfter}
+use Rattle.emdf_records_row.specs.Row.{last_of, row_after}
 use Rattle.emdf_records_row.proofs.Numbered.{RowsNumbered, numbered-none, row_at, numbered_next, row-is-at, found-most}
-use Rattle.emdf_records.proofs.Row.{Cursor, cursorVal}
+use Rattle.emdf_records.proofs.Row.{Cursor, cursor_val}
 
 -- of a table xs and a carrier in s
 abbrev pub plan : List ℕ → List PayloadRow → RecordsPlan
-plan s xs = recordsPlan (length xs) s (reading s)
+plan s xs = records_plan (length xs) s (reading s)
 
 abbrev pub done : List ℕ → List PayloadRow → Records
 done s xs = in_table (length xs) (reading s)
@@ -42,7 +42,7 @@ pub record State (s : List ℕ) (xs : List PayloadRow) : Type 0 where
   pub l : List PayloadRow
   pub slots : List ℕ
   pub left : List Found
-  pub at-is : Is Cursor at (cursorVal at ∷ [])
+  pub at-is : Is Cursor at (cursor_val at ∷ [])
   pub counted : k + length left ≡ (plan s xs).count
   pub len : length l ≡ length xs
   pub ahead : Left s at left
@@ -50,11 +50,11 @@ pub record State (s : List ℕ) (xs : List PayloadRow) : Type 0 where
   pub numbered : RowsNumbered l (ids s xs) k
   pub slots_len : length slots ≡ 512
   pub tracked : Tracks slots (ids s xs) k
-  pub same : sets l k (rows_from (ids s xs) k left) ≡ tableAfter (done s xs) xs
+  pub same : sets l k (rows_from (ids s xs) k left) ≡ table_after (done s xs) xs
 
 -- no row is there yet
-abbrev pub noSlots : List ℕ
-noSlots = replicate 512 0
+abbrev pub no_slots : List ℕ
+no_slots = replicate 512 0
 
 module _ (s : List ℕ) (xs : List PayloadRow) where
   pub room : (plan s xs).count ≤ length xs
@@ -66,12 +66,12 @@ module _ (s : List ℕ) (xs : List PayloadRow) where
   pub all-counted : 0 + length (planned (done s xs)) ≡ (plan s xs).count
   all-counted = omega (arith, (plan-is s (length xs) (reading s) refl).count)
 
-  abbrev pub start : Is Cursor (plan s xs).first (cursorVal (plan s xs).first ∷ []) → State s xs
+  abbrev pub start : Is Cursor (plan s xs).first (cursor_val (plan s xs).first ∷ []) → State s xs
   start i = record {
     k = 0;
     at = (plan s xs).first;
     l = xs;
-    slots = noSlots;
+    slots = no_slots;
     left = planned (done s xs);
     at-is = i;
     counted = all-counted;
@@ -88,7 +88,7 @@ module _ (s : List ℕ) (xs : List PayloadRow) where
     pub some_left : st.k < (plan s xs).count → 0 < length st.left
     some_left h = omega (arith, st.counted)
 
-    module _ {r : PayloadRecord} {c : BitCursor} (g : stepAt (inside s st.at) st.at ≡ PayloadStep.Payload r c) (h : st.k < (plan s xs).count) where
+    module _ {r : PayloadRecord} {c : BitCursor} (g : step_at (inside s st.at) st.at ≡ PayloadStep.Payload r c) (h : st.k < (plan s xs).count) where
       abbrev pub turn : Turned s st.left c r
       turn = turned s st.at st.left st.ahead (some_left h) g
 
@@ -119,7 +119,7 @@ module _ (s : List ℕ) (xs : List PayloadRow) where
       abbrev pub rows : ℕ
       rows = searched st.slots r.id st.k
 
-      pub new_is : rowAfter st.l rows r ≡ new
+      pub new_is : row_after st.l rows r ≡ new
       new_is = row-is-at st.l (ids s xs) st.k st.numbered r own-id st.slots st.tracked in_ids
 
       pub rows-within : rows ≤ st.k
@@ -128,7 +128,7 @@ module _ (s : List ℕ) (xs : List PayloadRow) where
       pub asked : length xs < 2 ^ 64 → (rows ≤ st.k) × (st.k < length st.l) × (last_of st.l r.id rows + 1 < 2 ^ 64)
       asked w = (rows-within, in-l, omega (arith, found-most st.l (ids s xs) st.k st.numbered r own-id st.slots st.tracked in_ids, h, room, w))
 
-      pub next-tracked : Tracks (slotsWith st.slots r.id st.k) (ids s xs) (st.k + 1)
+      pub next-tracked : Tracks (slots_with st.slots r.id st.k) (ids s xs) (st.k + 1)
       next-tracked =
           let e : st.k + 1 ≡ suc st.k = omega arith in
           rw (e, ← own-id) (tracks-next st.tracked in_ids)
@@ -139,18 +139,18 @@ module _ (s : List ℕ) (xs : List PayloadRow) where
       pub next-numbered : RowsNumbered (set st.l st.k new) (ids s xs) (st.k + 1)
       next-numbered = numbered_next st.l (ids s xs) st.k st.numbered r own-id in-l
 
-      pub next-same : sets (set st.l st.k new) (st.k + 1) (rows_from (ids s xs) (st.k + 1) (rest st.left)) ≡ tableAfter (done s xs) xs
+      pub next-same : sets (set st.l st.k new) (st.k + 1) (rows_from (ids s xs) (st.k + 1) (rest st.left)) ≡ table_after (done s xs) xs
       next-same =
           let e : st.k + 1 ≡ suc st.k = omega arith in
           ap (λ (i : ℕ). sets (set st.l st.k new) i (rows_from (ids s xs) i (rest st.left))) e ∙ ap (sets st.l st.k) (sym (turn.rows (ids s xs) st.k)) ∙ st.same
 
       -- one more row
-      abbrev pub next : Is Cursor c (cursorVal c ∷ []) → State s xs
+      abbrev pub next : Is Cursor c (cursor_val c ∷ []) → State s xs
       next i = record {
         k = st.k + 1;
         at = c;
         l = set st.l st.k new;
-        slots = slotsWith st.slots r.id st.k;
+        slots = slots_with st.slots r.id st.k;
         left = rest st.left;
         at-is = i;
         counted = next-counted;
@@ -166,10 +166,10 @@ module _ (s : List ℕ) (xs : List PayloadRow) where
     pub nearer : st.k < (plan s xs).count → (plan s xs).count - (st.k + 1) < (plan s xs).count - st.k
     nearer h = omega (arith, h)
 
-    pub over : (plan s xs).count ≤ st.k → st.l ≡ tableAfter (done s xs) xs
+    pub over : (plan s xs).count ≤ st.k → st.l ≡ table_after (done s xs) xs
     unfolding rows_from
     over h = go st.left st.counted st.same
       where
-        go : (ys : List Found) → st.k + length ys ≡ (plan s xs).count → sets st.l st.k (rows_from (ids s xs) st.k ys) ≡ tableAfter (done s xs) xs → st.l ≡ tableAfter (done s xs) xs
+        go : (ys : List Found) → st.k + length ys ≡ (plan s xs).count → sets st.l st.k (rows_from (ids s xs) st.k ys) ≡ table_after (done s xs) xs → st.l ≡ table_after (done s xs) xs
         go [] e f = f
         go (y ∷ ys) e f = absurd (omega (arith, e, h))

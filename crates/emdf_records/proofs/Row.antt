@@ -31,7 +31,7 @@ use Rattle.emdf_format.proofs.EmdfError.TheLaws as error-laws
 use Rattle.emdf_format.proofs.EmdfPayloadConfig.TheLaws as config-laws
 use Rattle.emdf_format.proofs.EmdfPayloadBitTrace.TheLaws as trace-laws
 use Rattle.emdf_records_row.proofs.Row as row_of
-use Rattle.emdf_records_row.proofs.Row.{Record, recordVal, behindId}
+use Rattle.emdf_records_row.proofs.Row.{Record, record_val, behind_id}
 
 -- the name of a declared type
 abbrev pub name_of : Ty → Sym
@@ -48,39 +48,39 @@ name_of (ty_named h) = []
 
 -- ---- a record and a row
 
-unfoldable pub recordName : Sym
-recordName = name_of row_of.recordTy
+unfoldable pub record_name : Sym
+record_name = name_of row_of.record_ty
 
 -- of what stands behind its id
-unfoldable pub behindIdTys : Tys
-behindIdTys = tcons config-laws.mir (tcons trace-laws.mir tnil)
+unfoldable pub behind_id_tys : Tys
+behind_id_tys = tcons config-laws.mir (tcons trace-laws.mir tnil)
 
-abbrev pub recordTy : Ty
-recordTy = ty_struct recordName (tcons (ty_int w64) behindIdTys)
+abbrev pub record_ty : Ty
+record_ty = ty_struct record_name (tcons (ty_int w64) behind_id_tys)
 
-pub record-typed : {M : Type 1} {𝓤 : Ura M} (𝓛 : Logic 𝓤) (r : PayloadRecord) (v : Val) → Is Record r (v ∷ []) → Holds (has_ty recordTy v) × WT v
-unfolding recordName behindIdTys
+pub record-typed : {M : Type 1} {𝓤 : Ura M} (𝓛 : Logic 𝓤) (r : PayloadRecord) (v : Val) → Is Record r (v ∷ []) → Holds (has_ty record_ty v) × WT v
+unfolding record_name behind_id_tys
 record-typed = row_of.record-typed
 
-unfoldable pub rowTy : Ty
-rowTy = row_of.rowTy
+unfoldable pub row_ty : Ty
+row_ty = row_of.row_ty
 
 -- ---- a cursor
 
 abbrev pub Cursor : RattleType
 Cursor = cursor-type.the_row
 
-unfoldable pub cursorTy : Ty
-cursorTy = cursor-laws.mir
+unfoldable pub cursor_ty : Ty
+cursor_ty = cursor-laws.mir
 
-unfoldable pub cursorVal : BitCursor → Val
-cursorVal c = struct.val cursor-type.the_type cursor-laws.the_laws c
+unfoldable pub cursor_val : BitCursor → Val
+cursor_val c = struct.val cursor-type.the_type cursor-laws.the_laws c
 
 pub cursor-made : {M : Type 1} {𝓤 : Ura M} (𝓛 : Logic 𝓤) → Makes 𝓛 Cursor (Is Cursor)
 cursor-made 𝓛 = struct.makes cursor-type.the_type cursor-laws.the_plain 𝓛
 
-pub cursor-typed : {M : Type 1} {𝓤 : Ura M} (𝓛 : Logic 𝓤) (c : BitCursor) (v : Val) → Is Cursor c (v ∷ []) → Holds (has_ty cursorTy v) × WT v
-unfolding cursorTy
+pub cursor-typed : {M : Type 1} {𝓤 : Ura M} (𝓛 : Logic 𝓤) (c : BitCursor) (v : Val) → Is Cursor c (v ∷ []) → Holds (has_ty cursor_ty v) × WT v
+unfolding cursor_ty
 cursor-typed 𝓛 c v is = ((struct.lawful cursor-type.the_type cursor-laws.the_laws 𝓛).typed c (v ∷ []) is).0
 
 -- ---- a step, with what it says of the record and the cursor in it
@@ -88,50 +88,50 @@ cursor-typed 𝓛 c v is = ((struct.lawful cursor-type.the_type cursor-laws.the_
 abbrev pub Step : RattleType
 Step = step-type.the_row
 
-unfoldable pub stepName : Sym
-stepName = name_of step-laws.mir
+unfoldable pub step_name : Sym
+step_name = name_of step-laws.mir
 
-unfoldable pub otherSteps : Tyss
-otherSteps = ttcons (tcons cursorTy tnil) (ttcons (tcons error-laws.mir tnil) ttnil)
+unfoldable pub other_steps : Tyss
+other_steps = ttcons (tcons cursor_ty tnil) (ttcons (tcons error-laws.mir tnil) ttnil)
 
-abbrev pub payloadTys : Tys
-payloadTys = tcons recordTy (tcons cursorTy tnil)
+abbrev pub payload_tys : Tys
+payload_tys = tcons record_ty (tcons cursor_ty tnil)
 
-abbrev pub stepTy : Ty
-stepTy = ty_enum stepName (ttcons payloadTys otherSteps)
+abbrev pub step_ty : Ty
+step_ty = ty_enum step_name (ttcons payload_tys other_steps)
 
 -- where the record and the cursor of a payload lie, behind the tag
-pub step-record-at : field_at 1 payloadTys 0 ≡ some (recordTy, 8)
-unfolding behindIdTys
+pub step-record-at : field_at 1 payload_tys 0 ≡ some (record_ty, 8)
+unfolding behind_id_tys
 step-record-at = refl
 
-pub step-cursor-at : field_at 1 payloadTys 1 ≡ some (cursorTy, 224)
-unfolding behindIdTys cursorTy
+pub step-cursor-at : field_at 1 payload_tys 1 ≡ some (cursor_ty, 224)
+unfolding behind_id_tys cursor_ty
 step-cursor-at = refl
 
-unfoldable pub stepVal : PayloadStep → Val
-stepVal g = enum.val step-type.the_type step-laws.the_laws g
+unfoldable pub step_val : PayloadStep → Val
+step_val g = enum.val step-type.the_type step-laws.the_laws g
 
-pub step-tells : Tells Step (Is Step) (λ g. stepVal g ∷ [])
-unfolding stepVal
+pub step-tells : Tells Step (Is Step) (λ g. step_val g ∷ [])
+unfolding step_val
 step-tells = enum.tells step-type.the_type step-laws.the_laws
 
-pub step_typed : {M : Type 1} {𝓤 : Ura M} (𝓛 : Logic 𝓤) (g : PayloadStep) (v : Val) → Is Step g (v ∷ []) → Holds (has_ty stepTy v) × WT v
-unfolding stepName otherSteps recordName behindIdTys cursorTy
+pub step_typed : {M : Type 1} {𝓤 : Ura M} (𝓛 : Logic 𝓤) (g : PayloadStep) (v : Val) → Is Step g (v ∷ []) → Holds (has_ty step_ty v) × WT v
+unfolding step_name other_steps record_name behind_id_tys cursor_ty
 step_typed 𝓛 g v is = ((enum.lawful step-type.the_type step-laws.the_laws 𝓛 tt).typed g (v ∷ []) is).0
 
 module _ (r : PayloadRecord) (c : BitCursor) where
-  pub step-payload : stepVal (PayloadStep.Payload r c) ≡ live 0 (vcons (recordVal r) (vcons (cursorVal c) vnil))
-  unfolding stepVal cursorVal behindId
+  pub step-payload : step_val (PayloadStep.Payload r c) ≡ live 0 (vcons (record_val r) (vcons (cursor_val c) vnil))
+  unfolding step_val cursor_val behind_id
   step-payload = refl
 
-  module _ (is : Is Step (PayloadStep.Payload r c) (stepVal (PayloadStep.Payload r c) ∷ [])) where
-    pub step-record : Is Record r (recordVal r ∷ [])
-    unfolding behindId
+  module _ (is : Is Step (PayloadStep.Payload r c) (step_val (PayloadStep.Payload r c) ∷ [])) where
+    pub step-record : Is Record r (record_val r ∷ [])
+    unfolding behind_id
     step-record = (enum.owed step-type.the_type step-laws.the_laws (PayloadStep.Payload r c) _ is).0
 
-    pub step-cursor : Is Cursor c (cursorVal c ∷ [])
-    unfolding cursorVal
+    pub step-cursor : Is Cursor c (cursor_val c ∷ [])
+    unfolding cursor_val
     step-cursor = (enum.owed step-type.the_type step-laws.the_laws (PayloadStep.Payload r c) _ is).1.0
 
 -- ---- the answer
@@ -139,8 +139,8 @@ module _ (r : PayloadRecord) (c : BitCursor) where
 abbrev pub Answer : RattleType
 Answer = answer-type.the_row
 
-unfoldable pub answerTy : Ty
-answerTy = answer-laws.mir
+unfoldable pub answer_ty : Ty
+answer_ty = answer-laws.mir
 
 unfoldable pub answer_val : RecordsAnswer → Val
 answer_val a = enum.val answer-type.the_type answer-laws.the_laws a
@@ -148,8 +148,8 @@ answer_val a = enum.val answer-type.the_type answer-laws.the_laws a
 pub answer-made : {M : Type 1} {𝓤 : Ura M} (𝓛 : Logic 𝓤) → Makes 𝓛 Answer (Is Answer)
 answer-made 𝓛 = enum.makes answer-type.the_type answer-laws.the_plain 𝓛
 
-pub answer_typed : {M : Type 1} {𝓤 : Ura M} (𝓛 : Logic 𝓤) (a : RecordsAnswer) (v : Val) → Is Answer a (v ∷ []) → Holds (has_ty answerTy v) × WT v
-unfolding answerTy
+pub answer_typed : {M : Type 1} {𝓤 : Ura M} (𝓛 : Logic 𝓤) (a : RecordsAnswer) (v : Val) → Is Answer a (v ∷ []) → Holds (has_ty answer_ty v) × WT v
+unfolding answer_ty
 answer_typed 𝓛 a v is = ((enum.lawful answer-type.the_type answer-laws.the_laws 𝓛 tt).typed a (v ∷ []) is).0
 
 -- ---- the plan, with what it says of its parts
@@ -157,39 +157,39 @@ answer_typed 𝓛 a v is = ((enum.lawful answer-type.the_type answer-laws.the_la
 abbrev pub Plan : RattleType
 Plan = plan-type.the_row
 
-unfoldable pub planName : Sym
-planName = name_of plan-laws.mir
+unfoldable pub plan_name : Sym
+plan_name = name_of plan-laws.mir
 
-abbrev pub planTys : Tys
-planTys = tcons (ty_int w64) (tcons cursorTy (tcons answerTy tnil))
+abbrev pub plan_tys : Tys
+plan_tys = tcons (ty_int w64) (tcons cursor_ty (tcons answer_ty tnil))
 
-abbrev pub planTy : Ty
-planTy = ty_struct planName planTys
+abbrev pub plan_ty : Ty
+plan_ty = ty_struct plan_name plan_tys
 
 -- where its parts lie
-pub plan-first-at : field_at 0 planTys 1 ≡ some (cursorTy, 8)
-unfolding cursorTy
+pub plan-first-at : field_at 0 plan_tys 1 ≡ some (cursor_ty, 8)
+unfolding cursor_ty
 plan-first-at = refl
 
-pub plan-answer-at : field_at 0 planTys 2 ≡ some (answerTy, 24)
-unfolding cursorTy answerTy
+pub plan-answer-at : field_at 0 plan_tys 2 ≡ some (answer_ty, 24)
+unfolding cursor_ty answer_ty
 plan-answer-at = refl
 
-abbrev pub planVal : RecordsPlan → Val
-planVal g = vstruct (vcons (vint w64 g.count) (vcons (cursorVal g.first) (vcons (answer_val g.answer) vnil)))
+abbrev pub plan_val : RecordsPlan → Val
+plan_val g = vstruct (vcons (vint w64 g.count) (vcons (cursor_val g.first) (vcons (answer_val g.answer) vnil)))
 
-pub plan-tells : Tells Plan (Is Plan) (λ g. planVal g ∷ [])
-unfolding answer_val cursorVal
+pub plan-tells : Tells Plan (Is Plan) (λ g. plan_val g ∷ [])
+unfolding answer_val cursor_val
 plan-tells = struct.tells plan-type.the_type plan-laws.the_laws
 
-pub plan-typed : {M : Type 1} {𝓤 : Ura M} (𝓛 : Logic 𝓤) (g : RecordsPlan) (v : Val) → Is Plan g (v ∷ []) → Holds (has_ty planTy v) × WT v
-unfolding planName cursorTy answerTy
+pub plan-typed : {M : Type 1} {𝓤 : Ura M} (𝓛 : Logic 𝓤) (g : RecordsPlan) (v : Val) → Is Plan g (v ∷ []) → Holds (has_ty plan_ty v) × WT v
+unfolding plan_name cursor_ty answer_ty
 plan-typed 𝓛 g v is = ((struct.lawful plan-type.the_type plan-laws.the_laws 𝓛).typed g (v ∷ []) is).0
 
 pub plan-answer : (g : RecordsPlan) (v : Val) → Is Plan g (v ∷ []) → Is Answer g.answer (answer_val g.answer ∷ [])
 unfolding answer_val
 plan-answer g v is = (struct.owed plan-type.the_type plan-laws.the_laws g (v ∷ []) is).1.1.0
 
-pub plan-first : (g : RecordsPlan) (v : Val) → Is Plan g (v ∷ []) → Is Cursor g.first (cursorVal g.first ∷ [])
-unfolding cursorVal
+pub plan-first : (g : RecordsPlan) (v : Val) → Is Plan g (v ∷ []) → Is Cursor g.first (cursor_val g.first ∷ [])
+unfolding cursor_val
 plan-first g v is = (struct.owed plan-type.the_type plan-laws.the_laws g (v ∷ []) is).1.0

@@ -2,7 +2,7 @@
 ghost use Rattle.std.specs.Prelude.{◌≡◌, ◌/◌, length, take};
 ghost use Rattle.emdf_format.specs.Reading.{reading};
 ghost use Rattle.emdf_format.specs.Calls.{in_table};
-ghost use Rattle.emdf_payloads.specs.Payloads.{stepAt};
+ghost use Rattle.emdf_payloads.specs.Payloads.{step_at};
 ghost use Rattle.emdf_records_plan.specs.Records.{GivesRecords};
 
 use emdf_format::PayloadRow;
@@ -34,7 +34,7 @@ pub fn parse_emdf_sync_with_bit_trace(bytes: &[u8], table: &mut [PayloadRow]) ->
 
 // The payload at a cursor, in the bytes before the cursor's end.
 fn payload_at(bytes: &[u8], at: BitCursor) -> PayloadStep
-    ensures { result ≡ stepAt (take (at.end / 8) bytes.now) at }
+    ensures { result ≡ step_at (take (at.end / 8) bytes.now) at }
 {
     let n = at.end / 8;
     if bytes.len() < n {

@@ -1,7 +1,7 @@
 // What a reading into a table answers, and which rows it fills: all that is read and asked before the first row is filled.
 ghost use Rattle.std.specs.Prelude.{◌≡◌};
 ghost use Rattle.emdf_format.specs.Reading.{reading};
-ghost use Rattle.emdf_records_plan.specs.Records.{no_rows, rowsPlan, recordsPlan};
+ghost use Rattle.emdf_records_plan.specs.Records.{no_rows, rows_plan, records_plan};
 
 use emdf_format::RecordsError;
 use openjoc_bitio::BitCursor;
@@ -24,7 +24,7 @@ pub struct RecordsPlan {
 
 // All is read and asked here, before the first row is filled.
 pub fn plan_records(bytes: &[u8], rows: usize) -> RecordsPlan
-    ensures { result ≡ recordsPlan rows bytes.now (reading bytes.now) }
+    ensures { result ≡ records_plan rows bytes.now (reading bytes.now) }
 {
     let a = openjoc_emdf::open_carrier(bytes);
     match a {
@@ -34,7 +34,7 @@ pub fn plan_records(bytes: &[u8], rows: usize) -> RecordsPlan
 }
 
 fn plan_rows(parsed: ParsedEmdf, first: BitCursor, rows: usize) -> RecordsPlan
-    ensures { result ≡ rowsPlan parsed first rows }
+    ensures { result ≡ rows_plan parsed first rows }
 {
     let count = parsed.container.payloads;
     if rows < count {

@@ -29,24 +29,24 @@ use Rattle.emdf_format.proofs.PayloadRow.TheLaws as row_laws
 abbrev pub Record : RattleType
 Record = record-type.the_row
 
-abbrev pub recordTy : Ty
-recordTy = record-laws.mir
+abbrev pub record_ty : Ty
+record_ty = record-laws.mir
 
 -- what stands behind its id
-unfoldable pub behindId : PayloadRecord → Vals
-behindId r = vcons (struct.val config-type.the_type config-laws.the_laws r.config) (vcons (struct.val trace-type.the_type trace-laws.the_laws r.trace) vnil)
+unfoldable pub behind_id : PayloadRecord → Vals
+behind_id r = vcons (struct.val config-type.the_type config-laws.the_laws r.config) (vcons (struct.val trace-type.the_type trace-laws.the_laws r.trace) vnil)
 
-abbrev pub recordVal : PayloadRecord → Val
-recordVal r = vstruct (vcons (vint w64 r.id) (behindId r))
+abbrev pub record_val : PayloadRecord → Val
+record_val r = vstruct (vcons (vint w64 r.id) (behind_id r))
 
-pub record-tells : Tells Record (Is Record) (λ r. recordVal r ∷ [])
-unfolding behindId
+pub record-tells : Tells Record (Is Record) (λ r. record_val r ∷ [])
+unfolding behind_id
 record-tells = struct.tells record-type.the_type record-laws.the_laws
 
 pub record-made : {M : Type 1} {𝓤 : Ura M} (𝓛 : Logic 𝓤) → Makes 𝓛 Record (Is Record)
 record-made 𝓛 = struct.makes record-type.the_type record-laws.the_plain 𝓛
 
-pub record-typed : {M : Type 1} {𝓤 : Ura M} (𝓛 : Logic 𝓤) (r : PayloadRecord) (v : Val) → Is Record r (v ∷ []) → Holds (has_ty recordTy v) × WT v
+pub record-typed : {M : Type 1} {𝓤 : Ura M} (𝓛 : Logic 𝓤) (r : PayloadRecord) (v : Val) → Is Record r (v ∷ []) → Holds (has_ty record_ty v) × WT v
 record-typed 𝓛 r v is = ((struct.lawful record-type.the_type record-laws.the_laws 𝓛).typed r (v ∷ []) is).0
 
 pub record-id : (r : PayloadRecord) (v : Val) → Is Record r (v ∷ []) → r.id < 2 ^ 64
@@ -57,25 +57,25 @@ record-id r v is = (struct.owed record-type.the_type record-laws.the_laws r (v �
 abbrev pub Row : RattleType
 Row = row_type.the_row
 
-abbrev pub rowTy : Ty
-rowTy = row_laws.mir
+abbrev pub row_ty : Ty
+row_ty = row_laws.mir
 
 abbrev pub row_val : PayloadRow → Val
-row_val r = vstruct (vcons (recordVal r.payload) (vcons (vint w64 r.ordinal) vnil))
+row_val r = vstruct (vcons (record_val r.payload) (vcons (vint w64 r.ordinal) vnil))
 
 pub row-tells : Tells Row (Is Row) (λ r. row_val r ∷ [])
-unfolding behindId
+unfolding behind_id
 row-tells = struct.tells row_type.the_type row_laws.the_laws
 
 pub row_made : {M : Type 1} {𝓤 : Ura M} (𝓛 : Logic 𝓤) → Makes 𝓛 Row (Is Row)
 row_made 𝓛 = struct.makes row_type.the_type row_laws.the_plain 𝓛
 
-pub row_typed : {M : Type 1} {𝓤 : Ura M} (𝓛 : Logic 𝓤) (r : PayloadRow) (v : Val) → Is Row r (v ∷ []) → Holds (has_ty rowTy v) × WT v
+pub row_typed : {M : Type 1} {𝓤 : Ura M} (𝓛 : Logic 𝓤) (r : PayloadRow) (v : Val) → Is Row r (v ∷ []) → Holds (has_ty row_ty v) × WT v
 row_typed 𝓛 r v is = ((struct.lawful row_type.the_type row_laws.the_laws 𝓛).typed r (v ∷ []) is).0
 
 -- a row of a record and an ordinal, and what it says of them
-pub row_is : (r : PayloadRow) → Is Record r.payload (recordVal r.payload ∷ []) → r.ordinal < 2 ^ 64 → Is Row r (row_val r ∷ [])
-unfolding behindId
+pub row_is : (r : PayloadRow) → Is Record r.payload (record_val r.payload ∷ []) → r.ordinal < 2 ^ 64 → Is Row r (row_val r ∷ [])
+unfolding behind_id
 row_is r is fits = struct.owes row_type.the_type row_laws.the_laws r (is, ((refl, fits), tt))
 
 pub row-id : (r : PayloadRow) (v : Val) → Is Row r (v ∷ []) → r.payload.id < 2 ^ 64

@@ -8,16 +8,16 @@ use lib.Dec.{T as Holds, eqb, eqb→eq, eqb_refl, T_not}
 use lib.ListN.{length, get_or}
 use Rattle.emdf_format.specs.declared.PayloadRow.{PayloadRow}
 use Rattle.emdf_ordinals.proofs.Rows.{last-here, last-before, none_left}
-use Rattle.emdf_records_row.specs.Row.{idIn, ordinalIn, last_of}
+use Rattle.emdf_records_row.specs.Row.{id_in, ordinal_in, last_of}
 
-pub id-there : (xs : List PayloadRow) (i : ℕ) (d : PayloadRow) → i < length xs → idIn xs i ≡ (get_or xs i d).payload.id
-unfolding idIn
+pub id-there : (xs : List PayloadRow) (i : ℕ) (d : PayloadRow) → i < length xs → id_in xs i ≡ (get_or xs i d).payload.id
+unfolding id_in
 id-there [] i d h = absurd (omega arith)
 id-there (x ∷ xs) zero d h = refl
 id-there (x ∷ xs) (suc i) d h = id-there xs i d (omega arith)
 
-pub ordinal-there : (xs : List PayloadRow) (i : ℕ) (d : PayloadRow) → i < length xs → ordinalIn xs i ≡ (get_or xs i d).ordinal
-unfolding ordinalIn
+pub ordinal-there : (xs : List PayloadRow) (i : ℕ) (d : PayloadRow) → i < length xs → ordinal_in xs i ≡ (get_or xs i d).ordinal
+unfolding ordinal_in
 ordinal-there [] i d h = absurd (omega arith)
 ordinal-there (x ∷ xs) zero d h = refl
 ordinal-there (x ∷ xs) (suc i) d h = ordinal-there xs i d (omega arith)
@@ -38,7 +38,7 @@ module _ (xs : List PayloadRow) (x n : ℕ) where
   module _ (st : Left xs x n) where
     -- none is left: none of them has the id
     pub ended : Holds (not (not (eqb st.left 0))) → 0 ≡ last_of xs x n
-    ended h = sym (none_left (idIn xs) (ordinalIn xs) x st.left (eqb→eq st.left 0 (held (eqb st.left 0) h))) ∙ st.same
+    ended h = sym (none_left (id_in xs) (ordinal_in xs) x st.left (eqb→eq st.left 0 (held (eqb st.left 0) h))) ∙ st.same
       where
         held : (b : Bool) → Holds (not (not b)) → Holds b
         held true t = t
@@ -59,17 +59,17 @@ module _ (xs : List PayloadRow) (x n : ℕ) where
         pub found : Holds (eqb (get_or xs (st.left - 1) d).payload.id x) → (get_or xs (st.left - 1) d).ordinal ≡ last_of xs x n
         found e =
             let i : st.left - 1 < length xs = in_rows l in
-            sym (ordinal-there xs (st.left - 1) d i) ∙ last-here (idIn xs) (ordinalIn xs) x st.left some_left (id-there xs (st.left - 1) d i ∙ eqb→eq _ _ e) ∙ st.same
+            sym (ordinal-there xs (st.left - 1) d i) ∙ last-here (id_in xs) (ordinal_in xs) x st.left some_left (id-there xs (st.left - 1) d i ∙ eqb→eq _ _ e) ∙ st.same
 
         -- or it has not, and fewer are left
         module _ (e : Holds (not (eqb (get_or xs (st.left - 1) d).payload.id x))) where
-          other : idIn xs (st.left - 1) ≡ x → ⊥
+          other : id_in xs (st.left - 1) ≡ x → ⊥
           other z =
               let f : x ≡ (get_or xs (st.left - 1) d).payload.id = sym z ∙ id-there xs (st.left - 1) d (in_rows l) in
               T_not (eqb (get_or xs (st.left - 1) d).payload.id x) e (subst (λ (y : ℕ). Holds (eqb y x)) f (eqb_refl x))
 
           pub same-before : last_of xs x (st.left - 1) ≡ last_of xs x n
-          same-before = last-before (idIn xs) (ordinalIn xs) x st.left some_left other ∙ st.same
+          same-before = last-before (id_in xs) (ordinal_in xs) x st.left some_left other ∙ st.same
 
           pub within-before : st.left - 1 ≤ n
           within-before = omega (arith, st.within)

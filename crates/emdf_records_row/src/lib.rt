@@ -1,13 +1,13 @@
 // A payload's row in a lent table, with its ordinal by the rows before it.
 ghost use Rattle.std.specs.Prelude.{◌≡◌, ◌+◌, ◌≤◌, ◌<◌, ◌^◌, length, set};
-ghost use Rattle.emdf_records_row.specs.Row.{last_of, rowAfter};
+ghost use Rattle.emdf_records_row.specs.Row.{last_of, row_after};
 
 use emdf_format::{PayloadRecord, PayloadRow};
 
 // Puts a payload's row at a place. So many of the first rows are searched for the last one with its id, from behind.
 pub fn put_row(table: &mut [PayloadRow], place: usize, rows: usize, payload: PayloadRecord)
     requires { (rows ≤ place) × (place < length table.old) × (last_of table.old payload.id rows + 1 < 2 ^ 64) }
-    ensures { table.new ≡ set table.old place (rowAfter table.old rows payload) }
+    ensures { table.new ≡ set table.old place (row_after table.old rows payload) }
 {
     let mut left = rows;
     let mut last: u64 = 0;

@@ -1,6 +1,6 @@
 // Each refusal's number in the scope, and its figures: a new refusal is a line here and a line in its definition.
 ghost use Rattle.std.specs.Prelude.{◌≡◌};
-ghost use Rattle.emdf_format.specs.Refusals.{refusalOf, recordsRefusal, profileRefusal, bodyRefusal, findRefusal, editRefusal, recipeRefusal, figuresOf};
+ghost use Rattle.emdf_format.specs.Refusals.{refusal_of, records_refusal, profile_refusal, body_refusal, find_refusal, edit_refusal, recipe_refusal, figures_of};
 
 use emdf_format::{
     BodyError, EditError, EmdfError, Figures, FindError, JocProfileError, RecipeError,
@@ -9,7 +9,7 @@ use emdf_format::{
 use openjoc_bitio::BitError;
 
 pub fn refusal_of(why: EmdfError) -> Refusal
-    ensures { result ≡ refusalOf why }
+    ensures { result ≡ refusal_of why }
 {
     match why {
         EmdfError::TruncatedContainer {
@@ -48,7 +48,7 @@ pub fn refusal_of(why: EmdfError) -> Refusal
 }
 
 pub fn records_refusal(why: RecordsError) -> Refusal
-    ensures { result ≡ recordsRefusal why }
+    ensures { result ≡ records_refusal why }
 {
     match why {
         RecordsError::Emdf(inner) => refusal_of(inner),
@@ -57,7 +57,7 @@ pub fn records_refusal(why: RecordsError) -> Refusal
 }
 
 pub fn profile_refusal(why: JocProfileError) -> Refusal
-    ensures { result ≡ profileRefusal why }
+    ensures { result ≡ profile_refusal why }
 {
     match why {
         JocProfileError::Emdf(inner) => refusal_of(inner),
@@ -69,7 +69,7 @@ pub fn profile_refusal(why: JocProfileError) -> Refusal
 }
 
 pub fn body_refusal(why: BodyError) -> Refusal
-    ensures { result ≡ bodyRefusal why }
+    ensures { result ≡ body_refusal why }
 {
     match why {
         BodyError::Emdf(inner) => refusal_of(inner),
@@ -79,7 +79,7 @@ pub fn body_refusal(why: BodyError) -> Refusal
 }
 
 pub fn find_refusal(why: FindError) -> Refusal
-    ensures { result ≡ findRefusal why }
+    ensures { result ≡ find_refusal why }
 {
     match why {
         FindError::Emdf(inner) => refusal_of(inner),
@@ -88,7 +88,7 @@ pub fn find_refusal(why: FindError) -> Refusal
 }
 
 pub fn edit_refusal(why: EditError) -> Refusal
-    ensures { result ≡ editRefusal why }
+    ensures { result ≡ edit_refusal why }
 {
     match why {
         EditError::Emdf(inner) => refusal_of(inner),
@@ -101,7 +101,7 @@ pub fn edit_refusal(why: EditError) -> Refusal
 }
 
 pub fn recipe_refusal(why: RecipeError) -> Refusal
-    ensures { result ≡ recipeRefusal why }
+    ensures { result ≡ recipe_refusal why }
 {
     match why {
         RecipeError::BrokenChain => Refusal::Bare(22),
@@ -111,7 +111,7 @@ pub fn recipe_refusal(why: RecipeError) -> Refusal
 
 // The number, and two figures.
 pub fn figures_of(refusal: Refusal) -> Figures
-    ensures { result ≡ figuresOf refusal }
+    ensures { result ≡ figures_of refusal }
 {
     match refusal {
         Refusal::Bare(number) => Figures {

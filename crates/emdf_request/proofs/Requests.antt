@@ -9,22 +9,22 @@ use lib.Dec.{T}
 use borrow.Author.Tests.{ltb-true, leb-true}
 use Rattle.openjoc_bitio.proofs.Bits.{length-number}
 use Rattle.emdf_format.specs.declared.EmdfPayloadConfig.{EmdfPayloadConfig}
-use Rattle.emdf_format.specs.Contents.{Payload, Contents, ◌&◌, writableConfig, writablePayload, writablePayloads, writable, neededPayload, protectionBits}
-use Rattle.emdf_format.specs.Edits.{withAt, withBody, withConfig, withPayloads, cleared, change, placeExists}
+use Rattle.emdf_format.specs.Contents.{Payload, Contents, ◌&◌, writable_config, writable_payload, writable_payloads, writable, needed_payload, protection_bits}
+use Rattle.emdf_format.specs.Edits.{with_at, with_body, with_config, with_payloads, cleared, change, place_exists}
 use Rattle.emdf_format.proofs.Standing.{is_true, and, both, length-then}
 use Rattle.emdf_format.proofs.Variable.{length-field}
 use Rattle.emdf_format.proofs.Payloads.{length-octets}
 use Rattle.emdf_format.proofs.Lengths.{length-extended, length-config, length-payload}
-use Rattle.emdf_measure.specs.Parts.{writableProtection}
+use Rattle.emdf_measure.specs.Parts.{writable_protection}
 use Rattle.emdf_request.specs.declared.Request.{Request}
 use Rattle.emdf_request.specs.declared.Request.TheVariants as Request
-use Rattle.emdf_request.specs.Requests.{editOf, stretchOf, bringing, newBits}
+use Rattle.emdf_request.specs.Requests.{edit_of, stretch_of, bringing, new_bits}
 
 -- ---- the place
 
 -- the octets that a request brings have no part in it
-pub same_place : (q : Request) (a b : List ℕ) (n : ℕ) → placeExists (editOf q [] []) n ≡ placeExists (editOf q a b) n
-unfolding editOf placeExists
+pub same_place : (q : Request) (a b : List ℕ) (n : ℕ) → place_exists (edit_of q [] []) n ≡ place_exists (edit_of q a b) n
+unfolding edit_of place_exists
 same_place (Request.Body k) a b n = refl
 same_place (Request.Settings k t) a b n = refl
 same_place (Request.Drop k) a b n = refl
@@ -32,8 +32,8 @@ same_place (Request.Insert k i t) a b n = refl
 same_place (Request.Key i) a b n = refl
 same_place Request.Protection a b n = refl
 
-pub place_in : (q : Request) (a b : List ℕ) (n : ℕ) → placeExists (editOf q a b) n ≡ true → (stretchOf q).place ≤ n
-unfolding editOf placeExists
+pub place_in : (q : Request) (a b : List ℕ) (n : ℕ) → place_exists (edit_of q a b) n ≡ true → (stretch_of q).place ≤ n
+unfolding edit_of place_exists
 place_in (Request.Body k) a b n h = omega (arith, ltb-true k n h)
 place_in (Request.Settings k t) a b n h = omega (arith, ltb-true k n h)
 place_in (Request.Drop k) a b n h = omega (arith, ltb-true k n h)
@@ -54,54 +54,54 @@ and_yes true b h = is_true b h
 and_yes false b h = refl
 
 -- where the payload at place k becomes f of it
-at-writable : (k : ℕ) (f : Payload → Payload) (w : Bool) (xs : List Payload) → ((x : Payload) → T (writablePayload x) → writablePayload (f x) ≡ w)
-    → T (writablePayloads xs) → k < length xs → writablePayloads (withAt k f xs) ≡ w
-unfolding writablePayloads withAt
+at-writable : (k : ℕ) (f : Payload → Payload) (w : Bool) (xs : List Payload) → ((x : Payload) → T (writable_payload x) → writable_payload (f x) ≡ w)
+    → T (writable_payloads xs) → k < length xs → writable_payloads (with_at k f xs) ≡ w
+unfolding writable_payloads with_at
 at-writable k f w [] g h l = absurd (omega arith)
 at-writable zero f w (x ∷ xs) g h l = and_yes _ _ (both h).right ∙ g x (both h).left
 at-writable (suc k) f w (x ∷ xs) g h l = yes_and _ _ (both h).left ∙ at-writable k f w xs g (both h).right (omega arith)
 
 -- question 17 of a payload is one of its id and settings
-body-writable : (bs : List ℕ) (x : Payload) → T (writablePayload x) → writablePayload (withBody bs x) ≡ true
-unfolding writablePayload
+body-writable : (bs : List ℕ) (x : Payload) → T (writable_payload x) → writable_payload (with_body bs x) ≡ true
+unfolding writable_payload
 body-writable bs x h = is_true _ h
 
-settings-writable : (t : EmdfPayloadConfig) (x : Payload) → T (writablePayload x) → writablePayload (withConfig t x) ≡ writableConfig t
-unfolding writablePayload
+settings-writable : (t : EmdfPayloadConfig) (x : Payload) → T (writable_payload x) → writable_payload (with_config t x) ≡ writable_config t
+unfolding writable_payload
 settings-writable t x h = yes_and _ _ (both h).left ∙ yes_and _ _ (both (both h).right).left
 
-drop-writable : (k : ℕ) (xs : List Payload) → T (writablePayloads xs) → writablePayloads (take k xs ++ drop (suc k) xs) ≡ true
-unfolding writablePayloads
+drop-writable : (k : ℕ) (xs : List Payload) → T (writable_payloads xs) → writable_payloads (take k xs ++ drop (suc k) xs) ≡ true
+unfolding writable_payloads
 drop-writable zero [] h = refl
 drop-writable zero (x ∷ xs) h = is_true _ (both h).right
 drop-writable (suc k) [] h = refl
 drop-writable (suc k) (x ∷ xs) h = yes_and _ _ (both h).left ∙ drop-writable k xs (both h).right
 
-insert-writable : (k : ℕ) (x : Payload) (xs : List Payload) → T (writablePayloads xs) → writablePayloads (take k xs ++ x ∷ drop k xs) ≡ writablePayload x
-unfolding writablePayloads
+insert-writable : (k : ℕ) (x : Payload) (xs : List Payload) → T (writable_payloads xs) → writable_payloads (take k xs ++ x ∷ drop k xs) ≡ writable_payload x
+unfolding writable_payloads
 insert-writable zero x xs h = and_yes _ _ h
 insert-writable (suc k) x [] h = and_yes _ _ tt
 insert-writable (suc k) x (y ∷ xs) h = yes_and _ _ (both h).left ∙ insert-writable k x xs (both h).right
 
 module _ (c : Contents) (w : T (writable c)) where
-  payloads-writable : T (writablePayloads c.payloads)
+  payloads-writable : T (writable_payloads c.payloads)
   unfolding writable
   payloads-writable = (both (both w).right).left
 
   -- a protection's length has a code, whatever its bytes are
-  clear-writable : T (writableProtection (cleared c).primary (cleared c).secondary)
-  unfolding writable writableProtection cleared
+  clear-writable : T (writable_protection (cleared c).primary (cleared c).secondary)
+  unfolding writable writable_protection cleared
   clear-writable = rw (length-replicate, length-replicate) (both (both w).right).right
 
-  with-writable : (xs : List Payload) → writable (withPayloads (cleared c) xs) ≡ writablePayloads xs
-  unfolding writable withPayloads writableProtection cleared
+  with-writable : (xs : List Payload) → writable (with_payloads (cleared c) xs) ≡ writable_payloads xs
+  unfolding writable with_payloads writable_protection cleared
   with-writable xs = yes_and _ _ (both w).left ∙ and_yes _ _ clear-writable
 
-  pub change-writable : (q : Request) (a b : List ℕ) → placeExists (editOf q a b) (length c.payloads) ≡ true
-      → writable (change (editOf q a b) c) ≡ (bringing q a b).brought.writable
-  unfolding editOf bringing change placeExists writableProtection writable
-  change-writable (Request.Body k) a b h = with-writable _ ∙ at-writable k (withBody a) true c.payloads (body-writable a) payloads-writable (ltb-true k _ h)
-  change-writable (Request.Settings k t) a b h = with-writable _ ∙ at-writable k (withConfig t) (writableConfig t) c.payloads (settings-writable t) payloads-writable (ltb-true k _ h)
+  pub change-writable : (q : Request) (a b : List ℕ) → place_exists (edit_of q a b) (length c.payloads) ≡ true
+      → writable (change (edit_of q a b) c) ≡ (bringing q a b).brought.writable
+  unfolding edit_of bringing change place_exists writable_protection writable
+  change-writable (Request.Body k) a b h = with-writable _ ∙ at-writable k (with_body a) true c.payloads (body-writable a) payloads-writable (ltb-true k _ h)
+  change-writable (Request.Settings k t) a b h = with-writable _ ∙ at-writable k (with_config t) (writable_config t) c.payloads (settings-writable t) payloads-writable (ltb-true k _ h)
   change-writable (Request.Drop k) a b h = with-writable _ ∙ drop-writable k c.payloads payloads-writable
   change-writable (Request.Insert k i t) a b h = with-writable _ ∙ insert-writable k _ c.payloads payloads-writable
   change-writable (Request.Key i) a b h = and_yes _ _ (and _ _ payloads-writable clear-writable)
@@ -109,8 +109,8 @@ module _ (c : Contents) (w : T (writable c)) where
 
 -- ---- how many bits a request brings
 
-pub length-new : (q : Request) (a b : List ℕ) → length (newBits q a b) ≡ (bringing q a b).brought.fields + 8 * (bringing q a b).brought.octets
-unfolding bringing neededPayload protectionBits
+pub length-new : (q : Request) (a b : List ℕ) → length (new_bits q a b) ≡ (bringing q a b).brought.fields + 8 * (bringing q a b).brought.octets
+unfolding bringing needed_payload protection_bits
 length-new (Request.Body k) a b = simp length-then (omega (arith, length-field 8 (length a), length-octets a))
 length-new (Request.Settings k t) a b = omega (arith, length-config t)
 length-new (Request.Drop k) a b = refl

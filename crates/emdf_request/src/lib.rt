@@ -1,9 +1,9 @@
 // What a request for an edit asks for: its place, the bits that it replaces, and what it brings.
 ghost use Rattle.std.specs.Prelude.{◌≡◌, [], ◌≤◌};
-ghost use Rattle.emdf_format.specs.Contents.{writablePayload};
-ghost use Rattle.emdf_format.specs.Edits.{placeExists};
+ghost use Rattle.emdf_format.specs.Contents.{writable_payload};
+ghost use Rattle.emdf_format.specs.Edits.{place_exists};
 ghost use Rattle.emdf_request.specs.declared.Request.TheVariants.{Insert};
-ghost use Rattle.emdf_request.specs.Requests.{editOf, stretchOf, bringing};
+ghost use Rattle.emdf_request.specs.Requests.{edit_of, stretch_of, bringing};
 
 use emdf_format::EmdfPayloadConfig;
 
@@ -53,7 +53,7 @@ pub struct Brought {
 
 // Whether the place that a request names is there, in so many payloads.
 pub fn place_exists(request: Request, count: usize) -> bool
-    ensures { result ≡ placeExists (editOf request [] []) count }
+    ensures { result ≡ place_exists (edit_of request [] []) count }
 {
     match request {
         Request::Body(place) => place < count,
@@ -67,7 +67,7 @@ pub fn place_exists(request: Request, count: usize) -> bool
 
 // The bits that a request replaces.
 pub fn stretch_of(request: Request) -> Stretch
-    ensures { result ≡ stretchOf request }
+    ensures { result ≡ stretch_of request }
 {
     match request {
         Request::Body(place) => Stretch {
@@ -157,7 +157,7 @@ fn payload_brought(id: u64, config: EmdfPayloadConfig, body: &[u8]) -> Brought
 }
 
 fn writable_payload(id: u64, config: EmdfPayloadConfig) -> bool
-    ensures { result ≡ writablePayload (record { id = id; config = config; body = [] }) }
+    ensures { result ≡ writable_payload (record { id = id; config = config; body = [] }) }
 {
     if id == 0 {
         return false;

@@ -8,23 +8,23 @@ use native.Mathlib.Omega.{arith}
 use lib.Dec.{lit<}
 use lib.ListN.{length, set, drop, get_or}
 use lib.Seq.{sets, sets-eq, drop-cons, drop-length}
-use Rattle.openjoc_bitio.specs.Bits.{swapOctets}
+use Rattle.openjoc_bitio.specs.Bits.{swap_octets}
 use Rattle.openjoc_bitio.proofs.Bits.{swap-octet}
 use Rattle.emdf_format.proofs.Bytes.{sets-append}
-use Rattle.emdf_answers.specs.Form.{bigEndian, words}
+use Rattle.emdf_answers.specs.Form.{big_endian, words}
 use Rattle.emdf_answers.proofs.Form.{length-big-endian, length-words}
 
 -- the octets of a word, each by its own store, from the word that has them in the machine's order
 module _ (l : List ℕ) (at v : ℕ) (h : v < 2 ^ 64) where
-  octet : (k : ℕ) → k < 8 → swapOctets v / 2 ^ (8 * k) % 256 ≡ v / 2 ^ (8 * (7 - k)) % 256
+  octet : (k : ℕ) → k < 8 → swap_octets v / 2 ^ (8 * k) % 256 ≡ v / 2 ^ (8 * (7 - k)) % 256
   octet k = swap-octet v k h
 
-  pub octets-stored : {x : ℕ} → x ≡ swapOctets v
+  pub octets-stored : {x : ℕ} → x ≡ swap_octets v
       → set (set (set (set (set (set (set (set l at (x % 256)) (at + 1) (x / 2 ^ 8 % 256)) (at + 2) (x / 2 ^ 16 % 256)) (at + 3) (x / 2 ^ 24 % 256)) (at + 4) (x / 2 ^ 32 % 256)) (at + 5) (x / 2 ^ 40 % 256)) (at + 6) (x / 2 ^ 48 % 256)) (at + 7) (x / 2 ^ 56 % 256)
-      ≡ sets l at (bigEndian 8 v)
-  unfolding bigEndian
+      ≡ sets l at (big_endian 8 v)
+  unfolding big_endian
   octets-stored e =
-      let first : swapOctets v % 256 ≡ v / 2 ^ 56 % 256 = rw div-one at (octet 0 (lit< tt)) in
+      let first : swap_octets v % 256 ≡ v / 2 ^ 56 % 256 = rw div-one at (octet 0 (lit< tt)) in
       let b : at + 1 ≡ suc at = omega arith in
       let c : at + 2 ≡ suc (suc at) = omega arith in
       let d : at + 3 ≡ suc (suc (suc at)) = omega arith in
@@ -35,19 +35,19 @@ module _ (l : List ℕ) (at v : ℕ) (h : v < 2 ^ 64) where
       rw (e, first, octet 1 (lit< tt), octet 2 (lit< tt), octet 3 (lit< tt), octet 4 (lit< tt), octet 5 (lit< tt), octet 6 (lit< tt), octet 7 (lit< tt), div-one, b, c, d, f, g, i, j)
 
 -- a word stored, and the words after it
-pub words-stored : (l : List ℕ) (i v : ℕ) (vs : List ℕ) → sets (sets l i (bigEndian 8 v)) (i + 8) (words vs) ≡ sets l i (words (v ∷ vs))
+pub words-stored : (l : List ℕ) (i v : ℕ) (vs : List ℕ) → sets (sets l i (big_endian 8 v)) (i + 8) (words vs) ≡ sets l i (words (v ∷ vs))
 unfolding words
 words-stored l i v vs =
-    ap (λ (n : ℕ). sets (sets l i (bigEndian 8 v)) (i + n) (words vs)) (sym (length-big-endian 8 v)) ∙ sym (sets-append l i (bigEndian 8 v) (words vs))
+    ap (λ (n : ℕ). sets (sets l i (big_endian 8 v)) (i + n) (words vs)) (sym (length-big-endian 8 v)) ∙ sym (sets-append l i (big_endian 8 v) (words vs))
 
-pub words-one : (v : ℕ) → words (v ∷ []) ≡ bigEndian 8 v
+pub words-one : (v : ℕ) → words (v ∷ []) ≡ big_endian 8 v
 unfolding words
-words-one v = append-nil (bigEndian 8 v)
+words-one v = append-nil (big_endian 8 v)
 
 words_append : (xs ys : List ℕ) → words (xs ++ ys) ≡ words xs ++ words ys
 unfolding words
 words_append [] ys = refl
-words_append (x ∷ xs) ys = rw (words_append xs ys) (sym (append_assoc (bigEndian 8 x) (words xs) (words ys)))
+words_append (x ∷ xs) ys = rw (words_append xs ys) (sym (append_assoc (big_endian 8 x) (words xs) (words ys)))
 
 -- some words stored, and others after them
 pub words-then : (l : List ℕ) (i : ℕ) (xs ys : List ℕ) {k : ℕ} → k ≡ i + 8 * length xs → sets (sets l i (words xs)) k (words ys) ≡ sets l i (words (xs ++ ys))
@@ -59,7 +59,7 @@ stored-whole l xs e = sets-eq xs l 0 (rw (zero-add, e) (le_refl _)) ∙ rw (zero
 
 -- the i-th of some words stored, and none left
 pub word-stored : (l : List ℕ) (at i : ℕ) (vs : List ℕ) → i < length vs
-    → sets (sets l (at + 8 * i) (bigEndian 8 (get_or vs i 0))) (at + 8 * (i + 1)) (words (drop (i + 1) vs)) ≡ sets l (at + 8 * i) (words (drop i vs))
+    → sets (sets l (at + 8 * i) (big_endian 8 (get_or vs i 0))) (at + 8 * (i + 1)) (words (drop (i + 1) vs)) ≡ sets l (at + 8 * i) (words (drop i vs))
 word-stored l at i vs h =
     let a : at + 8 * (i + 1) ≡ at + 8 * i + 8 = omega arith in
     rw (a, add-one, drop-cons vs i 0) (words-stored l (at + 8 * i) (get_or vs i 0) (drop (suc i) vs))

@@ -5,14 +5,14 @@ ghost use Rattle.emdf_format.specs.Reading.{Found};
 ghost use Rattle.emdf_format.specs.Calls.{unrecorded};
 ghost use Rattle.emdf_format.specs.Ordinals.{rows_of};
 ghost use Rattle.emdf_payloads.specs.Payloads.{Listed};
-ghost use Rattle.emdf_answers.specs.Form.{bigEndian, words};
-ghost use Rattle.emdf_answers.specs.Bits.{replyWords, BitReplies};
+ghost use Rattle.emdf_answers.specs.Form.{big_endian, words};
+ghost use Rattle.emdf_answers.specs.Bits.{reply_words, BitReplies};
 ghost use Rattle.emdf_answers.specs.Fields.{FieldReplies};
-ghost use Rattle.emdf_answers.specs.Replies.{twoReply, Replies};
-ghost use Rattle.emdf_answers.specs.Carriers.{readReply, rowWords, rowsBytes, moveFigures, findFigures};
-ghost use Rattle.emdf_answers.specs.Edits.{editedFigures};
-ghost use Rattle.emdf_ordinals.specs.Rows.{slotsWith};
-ghost use Rattle.emdf_rows.specs.Rows.{lastIn, Searchable, PutsRow};
+ghost use Rattle.emdf_answers.specs.Replies.{two_reply, Replies};
+ghost use Rattle.emdf_answers.specs.Carriers.{read_reply, row_words, rows_bytes, move_figures, find_figures};
+ghost use Rattle.emdf_answers.specs.Edits.{edited_figures};
+ghost use Rattle.emdf_ordinals.specs.Rows.{slots_with};
+ghost use Rattle.emdf_rows.specs.Rows.{last_in, Searchable, PutsRow};
 
 use emdf_answers::{BitReply, FieldReply};
 use emdf_format::{BodyAnswer, EditAnswer, Figures, FindAnswer, PayloadRecord, RecordsError};
@@ -47,7 +47,7 @@ pub fn put_field(answer: &mut [u8; 56], field: FieldReply) -> u32
 }
 
 fn reply_words(reply: BitReply) -> [u64; 6]
-    ensures { result ≡ replyWords reply }
+    ensures { result ≡ reply_words reply }
 {
     [
         reply.first,
@@ -60,7 +60,7 @@ fn reply_words(reply: BitReply) -> [u64; 6]
 }
 
 pub fn put_refusal(answer: &mut [u8; 80], why: RecordsError) -> u32
-    ensures { Replies (readReply (unrecorded why)) result answer.new }
+    ensures { Replies (read_reply (unrecorded why)) result answer.new }
 {
     let f = emdf_refusals::figures_of(emdf_refusals::records_refusal(why));
     put_reading(answer, f.number, emdf_answers::figure_words(f))
@@ -76,7 +76,7 @@ pub fn put_reading(answer: &mut [u8; 80], number: u32, values: [u64; 10]) -> u32
 // A row for each of count payloads, the first of which stands at c.
 pub fn put_rows(table: &mut [u8], s: &[u8], c: BitCursor, count: usize)
     requires { (count * 224 ≤ length table.old) × ((xs : List Found) × Listed s.now c xs × (length xs ≡ count)) }
-    ensures { (xs : List Found) → Listed s.now c xs → length xs ≡ count → table.new ≡ sets table.old 0 (rowsBytes (rows_of xs)) }
+    ensures { (xs : List Found) → Listed s.now c xs → length xs ≡ count → table.new ≡ sets table.old 0 (rows_bytes (rows_of xs)) }
 {
     if count <= FEW_PAYLOADS {
         let mut slots: [u64; 32] = [0; 32];
@@ -90,7 +90,7 @@ pub fn put_rows(table: &mut [u8], s: &[u8], c: BitCursor, count: usize)
 // The same with slots that are all free.
 fn put_rows_with(table: &mut [u8], slots: &mut [u64], s: &[u8], c: BitCursor, count: usize)
     requires { (count * 224 ≤ length table.old) × ((xs : List Found) × Listed s.now c xs × (length xs ≡ count)) × (slots.old ≡ replicate (length slots.old) 0) }
-    ensures { (xs : List Found) → Listed s.now c xs → length xs ≡ count → table.new ≡ sets table.old 0 (rowsBytes (rows_of xs)) }
+    ensures { (xs : List Found) → Listed s.now c xs → length xs ≡ count → table.new ≡ sets table.old 0 (rows_bytes (rows_of xs)) }
 {
     let mut at = c;
     let mut place: usize = 0;
@@ -139,7 +139,7 @@ fn put_found(table: &mut [u8], slots: &mut [u64], place: usize, s: &[u8], c: Bit
 // compiles into put_next.
 fn next_ordinal(table: &[u8], slots: &mut [u64], place: usize, id: u64) -> u64
     requires { (place * 224 + 224 ≤ length table.now) × Searchable table.now slots.old place }
-    ensures { (result ≡ suc (lastIn table.now slots.old place id)) × (slots.new ≡ slotsWith slots.old id place) }
+    ensures { (result ≡ suc (last_in table.now slots.old place id)) × (slots.new ≡ slots_with slots.old id place) }
 {
     let rows = emdf_ordinals::take_slot(slots, id, place);
     let last = emdf_ordinals::last_ordinal(table, ROW_BYTES, ORDINAL_AT, rows, id);
@@ -149,7 +149,7 @@ fn next_ordinal(table: &[u8], slots: &mut [u64], place: usize, id: u64) -> u64
 // The id, 18 numbers of settings, 8 of the trace, and the ordinal.
 pub fn put_row(table: &mut [u8], at: usize, payload: PayloadRecord, ordinal: u64)
     requires { at + 224 ≤ length table.old }
-    ensures { table.new ≡ sets table.old at (words (rowWords (record { payload = payload; ordinal = ordinal }))) }
+    ensures { table.new ≡ sets table.old at (words (row_words (record { payload = payload; ordinal = ordinal }))) }
 {
     put_word(table, at, payload.id);
     let config = emdf_answers::config_words(payload.config);
@@ -160,19 +160,19 @@ pub fn put_row(table: &mut [u8], at: usize, payload: PayloadRecord, ordinal: u64
 }
 
 pub fn put_moved(answer: &mut [u8; 16], moved: BodyAnswer) -> u32
-    ensures { Replies (twoReply (moveFigures moved)) result answer.new }
+    ensures { Replies (two_reply (move_figures moved)) result answer.new }
 {
     put_two(answer, emdf_answers::move_figures(moved))
 }
 
 pub fn put_place(answer: &mut [u8; 16], found: FindAnswer) -> u32
-    ensures { Replies (twoReply (findFigures found)) result answer.new }
+    ensures { Replies (two_reply (find_figures found)) result answer.new }
 {
     put_two(answer, emdf_answers::find_figures(found))
 }
 
 pub fn put_two(answer: &mut [u8; 16], f: Figures) -> u32
-    ensures { Replies (twoReply f) result answer.new }
+    ensures { Replies (two_reply f) result answer.new }
 {
     let values = [f.first, f.second];
     put_words(answer, 0, &values);
@@ -180,7 +180,7 @@ pub fn put_two(answer: &mut [u8; 16], f: Figures) -> u32
 }
 
 pub fn put_edited(answer: &mut [u8; 16], edited: EditAnswer) -> u32
-    ensures { Replies (twoReply (editedFigures edited)) result answer.new }
+    ensures { Replies (two_reply (edited_figures edited)) result answer.new }
 {
     put_two(answer, emdf_answers::edited_figures(edited))
 }
@@ -200,7 +200,7 @@ pub fn put_words(out: &mut [u8], at: usize, values: &[u64])
 // v in 8 bytes, the most significant first, from index at on.
 fn put_word(out: &mut [u8], at: usize, v: u64)
     requires { at + 8 ≤ length out.old }
-    ensures { out.new ≡ sets out.old at (bigEndian 8 v) }
+    ensures { out.new ≡ sets out.old at (big_endian 8 v) }
 {
     // The octets in the machine's order: the compiler joins the eight stores.
     let x = openjoc_bitio::swap_octets(v);

@@ -1,11 +1,10 @@
 // The settings of a payload: which of them the rule wants, and settings read field by field.
-ghost use Rattle.std.specs.Prelude.{◌≡◌, ◌≤◌};
-ghost use Rattle.emdf_format.specs.Contents.{isPresent, isOne, hasAligned, hasPriority};
-ghost use Rattle.openjoc_bitio.specs.Choice.{if◌then◌else◌};
-ghost use Rattle.emdf_format.specs.Reader.{bits, variableBits, present, flagged};
-ghost use Rattle.emdf_format.specs.Reading.{sampleOffset, codecData, configControls, payloadConfig};
-ghost use Rattle.emdf_fields.specs.Fields.{fieldAnswer};
-ghost use Rattle.emdf_settings.specs.Settings.{optionalAnswer, configAnswer, optionalError, configError};
+ghost use Rattle.std.specs.Prelude.{◌≡◌, ◌≤◌, if◌then◌else◌};
+ghost use Rattle.emdf_format.specs.Contents.{is_present, is_one, has_aligned, has_priority};
+ghost use Rattle.emdf_format.specs.Reader.{bits, variable_bits, present, flagged};
+ghost use Rattle.emdf_format.specs.Reading.{sample_offset_of, codec_data, config_controls, payload_config};
+ghost use Rattle.emdf_fields.specs.Fields.{field_answer};
+ghost use Rattle.emdf_settings.specs.Settings.{optional_answer, config_answer, optional_error, config_error};
 
 use emdf_fields::FieldAnswer;
 use emdf_format::{
@@ -29,7 +28,7 @@ pub enum ConfigAnswer {
 
 // Whether a setting is there.
 pub fn is_present(o: Optional) -> bool
-    ensures { result ≡ isPresent o }
+    ensures { result ≡ is_present o }
 {
     match o {
         Optional::Absent => false,
@@ -39,7 +38,7 @@ pub fn is_present(o: Optional) -> bool
 
 // Whether a setting is there and is 1.
 pub fn is_one(o: Optional) -> bool
-    ensures { result ≡ isOne o }
+    ensures { result ≡ is_one o }
 {
     match o {
         Optional::Absent => false,
@@ -49,7 +48,7 @@ pub fn is_one(o: Optional) -> bool
 
 // Whether the rule wants payload_frame_aligned.
 pub fn has_aligned(discard: u64, offset: Optional) -> bool
-    ensures { result ≡ hasAligned discard offset }
+    ensures { result ≡ has_aligned discard offset }
 {
     if discard != 0 {
         return false;
@@ -59,7 +58,7 @@ pub fn has_aligned(discard: u64, offset: Optional) -> bool
 
 // Whether the rule wants priority and processing.
 pub fn has_priority(discard: u64, offset: Optional, aligned: Optional) -> bool
-    ensures { result ≡ hasPriority discard offset aligned }
+    ensures { result ≡ has_priority discard offset aligned }
 {
     if discard != 0 {
         return false;
@@ -72,7 +71,7 @@ pub fn has_priority(discard: u64, offset: Optional, aligned: Optional) -> bool
 
 // A flag and, where it is set, a sample offset with its reserved bit.
 fn sample_offset(s: &[u8], c: BitCursor) -> OptionalAnswer
-    ensures { result ≡ optionalAnswer c.end (flagged sampleOffset s.now c.end c.position) }
+    ensures { result ≡ optional_answer c.end (flagged sample_offset_of s.now c.end c.position) }
 {
     let a = emdf_fields::read_bits(s, c, 1);
     let FieldAnswer::Value(flag, c1) = a else {
@@ -97,7 +96,7 @@ fn sample_offset(s: &[u8], c: BitCursor) -> OptionalAnswer
 
 // A flag and, where it is set, a variable field.
 fn flagged_variable(s: &[u8], c: BitCursor, width: u8, limit: u8) -> OptionalAnswer
-    ensures { result ≡ optionalAnswer c.end (flagged (variableBits width limit) s.now c.end c.position) }
+    ensures { result ≡ optional_answer c.end (flagged (variable_bits width limit) s.now c.end c.position) }
 {
     let a = emdf_fields::read_bits(s, c, 1);
     let FieldAnswer::Value(flag, c1) = a else {
@@ -115,7 +114,7 @@ fn flagged_variable(s: &[u8], c: BitCursor, width: u8, limit: u8) -> OptionalAns
 
 // The codec data's flag and, where it is set, the reserved octet.
 fn codec_data(s: &[u8], c: BitCursor) -> FieldAnswer
-    ensures { result ≡ fieldAnswer c.end (codecData s.now c.end c.position) }
+    ensures { result ≡ field_answer c.end (codec_data s.now c.end c.position) }
 {
     let a = emdf_fields::read_bits(s, c, 1);
     let FieldAnswer::Value(flag, c1) = a else {
@@ -136,7 +135,7 @@ fn codec_data(s: &[u8], c: BitCursor) -> FieldAnswer
 
 // n bits, where they are there.
 fn present_bits(s: &[u8], c: BitCursor, there: bool, n: u8) -> OptionalAnswer
-    ensures { result ≡ optionalAnswer c.end (present there (bits n) s.now c.end c.position) }
+    ensures { result ≡ optional_answer c.end (present there (bits n) s.now c.end c.position) }
 {
     if !there {
         return OptionalAnswer::Value(Optional::Absent, c);
@@ -149,7 +148,7 @@ fn present_bits(s: &[u8], c: BitCursor, there: bool, n: u8) -> OptionalAnswer
 }
 
 fn optional_error(a: OptionalAnswer) -> EmdfError
-    ensures { result ≡ optionalError a result }
+    ensures { result ≡ optional_error a result }
 {
     match a {
         OptionalAnswer::Value(_, _) => EmdfError::ValueOverflow,
@@ -159,7 +158,7 @@ fn optional_error(a: OptionalAnswer) -> EmdfError
 
 // The ten settings of a payload.
 pub fn payload_config(s: &[u8], c: BitCursor) -> ConfigAnswer
-    ensures { result ≡ configAnswer c.end (payloadConfig s.now c.end c.position) }
+    ensures { result ≡ config_answer c.end (payload_config s.now c.end c.position) }
 {
     let a1 = sample_offset(s, c);
     let OptionalAnswer::Value(offset, c1) = a1 else {
@@ -194,7 +193,7 @@ fn config_controls(
     codec: u64,
     discard: u64,
 ) -> ConfigAnswer
-    ensures { result ≡ configAnswer c.end (configControls offset duration group codec discard s.now c.end c.position) }
+    ensures { result ≡ config_answer c.end (config_controls offset duration group codec discard s.now c.end c.position) }
 {
     let a1 = present_bits(s, c, has_aligned(discard, offset), 1);
     let OptionalAnswer::Value(aligned, c1) = a1 else {
@@ -233,7 +232,7 @@ fn config_controls(
 }
 
 pub fn config_error(a: ConfigAnswer) -> EmdfError
-    ensures { result ≡ configError a result }
+    ensures { result ≡ config_error a result }
 {
     match a {
         ConfigAnswer::Config(_, _) => EmdfError::ValueOverflow,

@@ -7,56 +7,56 @@ use native.Mathlib.Omega.{arith}
 use borrow.Author.Tests.{le-leb, lt-ltb}
 use lib.ListN.{length, get_or, take, drop}
 use lib.Dec.{eqb, lit<}
-use Rattle.openjoc_bitio.specs.Choice.{if◌then◌else◌}
-use Rattle.openjoc_bitio.specs.Cursor.{past, bitsRemaining, readBits}
+use Rattle.std.specs.Prelude.{if◌then◌else◌}
+use Rattle.openjoc_bitio.specs.Cursor.{past, bits_remaining, read_bits}
 use Rattle.openjoc_bitio.specs.declared.BitCursor.{BitCursor}
 use Rattle.openjoc_bitio.specs.declared.BitError.{BitError}
 use Rattle.openjoc_bitio.specs.declared.BitsAnswer.{BitsAnswer}
 use Rattle.openjoc_bitio.specs.declared.BitsAnswer.TheVariants.{Value, Refused}
 use Rattle.openjoc_bitio.proofs.Cursor.{remaining-inside, read-accepted}
-use Rattle.emdf_format.specs.Contents.{◌&◌, whenPresent, up_to, writableConfig, Payload, writablePayload, writablePayloads, Contents, writable}
-use Rattle.emdf_format.specs.Edits.{settingsEdit, insertEdit, withAt, withConfig, withPayloads, cleared, change, placeExists, unchanged, stepTo, step}
+use Rattle.emdf_format.specs.Contents.{◌&◌, when_present, up_to, writable_config, Payload, writable_payload, writable_payloads, Contents, writable}
+use Rattle.emdf_format.specs.Edits.{settings_edit, insert_edit, with_at, with_config, with_payloads, cleared, change, place_exists, unchanged, step_to, step}
 use Rattle.emdf_format.specs.declared.EditError.TheVariants.{NotWritable}
 use Rattle.emdf_format.specs.declared.Optional.{Optional}
 use Rattle.emdf_format.specs.declared.Optional.TheVariants.{Absent, Present}
 use Rattle.emdf_format.specs.declared.EmdfPayloadConfig.{EmdfPayloadConfig}
 use Rattle.emdf_measure.proofs.Asked.{stop}
 use Rattle.emdf_answers.specs.Form.{words, number_at}
-use Rattle.emdf_answers.specs.Carriers.{optionalWords, configWords}
-use Rattle.emdf_settings_bytes.specs.Settings.{optionalAt, pairFormed, pairsFormed, settingsFormed, configOf, unformed, settingsOf}
+use Rattle.emdf_answers.specs.Carriers.{optional_words, config_words}
+use Rattle.emdf_settings_bytes.specs.Settings.{optional_at, pair_formed, pairs_formed, settings_formed, config_of, unformed, settings_of}
 use Rattle.emdf_answers.proofs.Form.{length-words, number_read}
-use Rattle.emdf_answers.proofs.Carriers.{presenceOf, value_of, listed, config-listed}
+use Rattle.emdf_answers.proofs.Carriers.{presence_of, value_of, listed, config-listed}
 
 -- ---- settings from their numbers
 
-optional-read : (o : Optional) {p v : ℕ} → p ≡ presenceOf o → v ≡ value_of o → (if eqb p 0 then Absent else Present v) ≡ o
-unfolding optionalWords
+optional-read : (o : Optional) {p v : ℕ} → p ≡ presence_of o → v ≡ value_of o → (if eqb p 0 then Absent else Present v) ≡ o
+unfolding optional_words
 optional-read Absent e f = rw e
 optional-read (Present x) e f = rw (e, f)
 
-pair_read : (o : Optional) {p v : ℕ} → p ≡ presenceOf o → v ≡ value_of o → (if eqb p 0 then eqb v 0 else eqb p 1) ≡ true
-unfolding optionalWords
+pair_read : (o : Optional) {p v : ℕ} → p ≡ presence_of o → v ≡ value_of o → (if eqb p 0 then eqb v 0 else eqb p 1) ≡ true
+unfolding optional_words
 pair_read Absent e f = rw (e, f)
 pair_read (Present x) e f = rw e
 
-module _ (t : EmdfPayloadConfig) (below : (k : ℕ) → get_or (configWords t) k 0 < 2 ^ 64) where
+module _ (t : EmdfPayloadConfig) (below : (k : ℕ) → get_or (config_words t) k 0 < 2 ^ 64) where
   abbrev row : List ℕ
-  row = words (configWords t)
+  row = words (config_words t)
 
   number : (k : ℕ) → k < 18 → number_at row k ≡ get_or (listed t) k 0
   number k h =
-      number_read (configWords t) k (rw (← config-listed t) h) (below k) ∙ ap (λ (l : List ℕ). get_or l k 0) (sym (config-listed t))
+      number_read (config_words t) k (rw (← config-listed t) h) (below k) ∙ ap (λ (l : List ℕ). get_or l k 0) (sym (config-listed t))
 
-  optional : (o : Optional) (k : ℕ) → k < 17 → get_or (listed t) k 0 ≡ presenceOf o → get_or (listed t) (k + 1) 0 ≡ value_of o → optionalAt row k ≡ o
-  unfolding optionalAt
+  optional : (o : Optional) (k : ℕ) → k < 17 → get_or (listed t) k 0 ≡ presence_of o → get_or (listed t) (k + 1) 0 ≡ value_of o → optional_at row k ≡ o
+  unfolding optional_at
   optional o k h e f = optional-read o (number k (omega arith) ∙ e) (number (k + 1) (omega arith) ∙ f)
 
-  pair : (o : Optional) (k : ℕ) → k < 17 → get_or (listed t) k 0 ≡ presenceOf o → get_or (listed t) (k + 1) 0 ≡ value_of o → pairFormed row k ≡ true
-  unfolding pairFormed
+  pair : (o : Optional) (k : ℕ) → k < 17 → get_or (listed t) k 0 ≡ presence_of o → get_or (listed t) (k + 1) 0 ≡ value_of o → pair_formed row k ≡ true
+  unfolding pair_formed
   pair o k h e f = pair_read o (number k (omega arith) ∙ e) (number (k + 1) (omega arith) ∙ f)
 
-  formed : settingsFormed row ≡ true
-  unfolding settingsFormed pairsFormed ◌&◌
+  formed : settings_formed row ≡ true
+  unfolding settings_formed pairs_formed ◌&◌
   formed =
       rw (
         pair t.sample_offset 0 (omega arith) refl refl,
@@ -69,8 +69,8 @@ module _ (t : EmdfPayloadConfig) (below : (k : ℕ) → get_or (configWords t) k
         pair t.processing_allowed 16 (omega arith) refl refl,
       )
 
-  config : configOf row ≡ t
-  unfolding configOf
+  config : config_of row ≡ t
+  unfolding config_of
   config =
       rw (
         optional t.sample_offset 0 (omega arith) refl refl,
@@ -86,16 +86,16 @@ module _ (t : EmdfPayloadConfig) (below : (k : ℕ) → get_or (configWords t) k
       )
 
   -- the settings' numbers in a row of a table are settings' bytes
-  pub settings-of-row : settingsOf (words (configWords t)) ≡ t
-  unfolding settingsOf ◌&◌
+  pub settings-of-row : settings_of (words (config_words t)) ≡ t
+  unfolding settings_of ◌&◌
   settings-of-row =
-      let e : length row ≡ 144 = length-words (configWords t) ∙ ap (λ (l : List ℕ). 8 * length l) (sym (config-listed t)) in
+      let e : length row ≡ 144 = length-words (config_words t) ∙ ap (λ (l : List ℕ). 8 * length l) (sym (config-listed t)) in
       rw (e, formed, config)
 
 -- ---- bytes outside the form
 
-pub unformed-unwritable : writableConfig unformed ≡ false
-unfolding writableConfig whenPresent up_to ◌&◌
+pub unformed-unwritable : writable_config unformed ≡ false
+unfolding writable_config when_present up_to ◌&◌
 unformed-unwritable = refl
 
 and-not : (a : Bool) {b : Bool} → b ≡ false → (a & b) ≡ false
@@ -103,60 +103,60 @@ unfolding ◌&◌
 and-not true h = h
 and-not false h = refl
 
-module _ (x : Payload) (h : writableConfig x.config ≡ false) where
-  payload-unwritable : writablePayload x ≡ false
-  unfolding writablePayload
+module _ (x : Payload) (h : writable_config x.config ≡ false) where
+  payload-unwritable : writable_payload x ≡ false
+  unfolding writable_payload
   payload-unwritable = and-not _ (and-not _ h)
 
   -- a payload that isn't writable, among others
-  payloads-unwritable : (xs ys : List Payload) → writablePayloads (xs ++ x ∷ ys) ≡ false
-  unfolding writablePayloads
+  payloads-unwritable : (xs ys : List Payload) → writable_payloads (xs ++ x ∷ ys) ≡ false
+  unfolding writable_payloads
   payloads-unwritable [] ys = sym (stop _ payload-unwritable)
   payloads-unwritable (z ∷ xs) ys = and-not _ (payloads-unwritable xs ys)
 
-with-unwritable : (t : EmdfPayloadConfig) → writableConfig t ≡ false → (k : ℕ) (xs : List Payload) → k < length xs → writablePayloads (withAt k (withConfig t) xs) ≡ false
-unfolding withAt writablePayloads
+with-unwritable : (t : EmdfPayloadConfig) → writable_config t ≡ false → (k : ℕ) (xs : List Payload) → k < length xs → writable_payloads (with_at k (with_config t) xs) ≡ false
+unfolding with_at writable_payloads
 with-unwritable t h k [] l = absurd (omega arith)
 with-unwritable t h zero (x ∷ xs) l = sym (stop _ (payload-unwritable _ h))
 with-unwritable t h (suc k) (x ∷ xs) l = and-not _ (with-unwritable t h k xs (omega arith))
 
-module _ (c : Contents) (xs : List Payload) (h : writablePayloads xs ≡ false) where
-  contents-unwritable : writable (withPayloads c xs) ≡ false
-  unfolding writable withPayloads
+module _ (c : Contents) (xs : List Payload) (h : writable_payloads xs ≡ false) where
+  contents-unwritable : writable (with_payloads c xs) ≡ false
+  unfolding writable with_payloads
   contents-unwritable = and-not _ (sym (stop _ h))
 
-  unwritable-refused : (room : ℕ) → stepTo room (withPayloads c xs) ≡ unchanged NotWritable
-  unfolding stepTo
+  unwritable-refused : (room : ℕ) → step_to room (with_payloads c xs) ≡ unchanged NotWritable
+  unfolding step_to
   unwritable-refused room = rw contents-unwritable
 
-module _ (s : List ℕ) (outside : (eqb (length s) 144 & settingsFormed s) ≡ false) where
-  pub outside-unwritable : writableConfig (settingsOf s) ≡ false
-  unfolding settingsOf
+module _ (s : List ℕ) (outside : (eqb (length s) 144 & settings_formed s) ≡ false) where
+  pub outside-unwritable : writable_config (settings_of s) ≡ false
+  unfolding settings_of
   outside-unwritable = rw (outside, unformed-unwritable)
 
   -- 17, where the place exists
-  pub settings-refused : (k room : ℕ) (c : Contents) → k < length c.payloads → step (settingsEdit k (settingsOf s)) room c ≡ unchanged NotWritable
-  unfolding step placeExists change
+  pub settings-refused : (k room : ℕ) (c : Contents) → k < length c.payloads → step (settings_edit k (settings_of s)) room c ≡ unchanged NotWritable
+  unfolding step place_exists change
   settings-refused k room c h =
-      rw (lt-ltb k (length c.payloads) h) (unwritable-refused (cleared c) _ (with-unwritable (settingsOf s) outside-unwritable k c.payloads h) room)
+      rw (lt-ltb k (length c.payloads) h) (unwritable-refused (cleared c) _ (with-unwritable (settings_of s) outside-unwritable k c.payloads h) room)
 
-  pub insert-refused : (k room id : ℕ) (bs : List ℕ) (c : Contents) → k ≤ length c.payloads → step (insertEdit k id (settingsOf s) bs) room c ≡ unchanged NotWritable
-  unfolding step placeExists change
+  pub insert-refused : (k room id : ℕ) (bs : List ℕ) (c : Contents) → k ≤ length c.payloads → step (insert_edit k id (settings_of s) bs) room c ≡ unchanged NotWritable
+  unfolding step place_exists change
   insert-refused k room id bs c h =
       rw (le-leb k (length c.payloads) h) (unwritable-refused (cleared c) _ (payloads-unwritable _ outside-unwritable (take k c.payloads) (drop k c.payloads)) room)
 
 -- ---- settings as the code reads them
 
-abbrev atNumber : ℕ → BitCursor
-atNumber k = record { position = 64 * k; end = 64 * k + 64 }
+abbrev at_number : ℕ → BitCursor
+at_number k = record { position = 64 * k; end = 64 * k + 64 }
 
 -- each of the 18 numbers is there
-module _ (s : List ℕ) (k : ℕ) (l : length s ≡ 144) (h : k < 18) {a : BitsAnswer} (e : a ≡ readBits s (atNumber k) 64) where
-  number_is : a ≡ Value (number_at s k) (past (atNumber k) 64)
+module _ (s : List ℕ) (k : ℕ) (l : length s ≡ 144) (h : k < 18) {a : BitsAnswer} (e : a ≡ read_bits s (at_number k) 64) where
+  number_is : a ≡ Value (number_at s k) (past (at_number k) 64)
   unfolding number_at
   number_is =
-      let r : bitsRemaining s (atNumber k) ≡ 64 = remaining-inside s (atNumber k) (rw l (lit< tt)) (omega arith) ∙ omega arith in
-      e ∙ read-accepted s (atNumber k) 64 (omega arith) (omega arith)
+      let r : bits_remaining s (at_number k) ≡ 64 = remaining-inside s (at_number k) (rw l (lit< tt)) (omega arith) ∙ omega arith in
+      e ∙ read-accepted s (at_number k) 64 (omega arith) (omega arith)
 
   pub number-value : {v : ℕ} {c : BitCursor} → a ≡ Value v c → v ≡ number_at s k
   number-value f = let g = number_is in cc
@@ -164,7 +164,7 @@ module _ (s : List ℕ) (k : ℕ) (l : length s ≡ 144) (h : k < 18) {a : BitsA
   pub number-there : {why : BitError} → a ≡ Refused why → ⊥
   number-there f = let g = number_is in let w : ◌≡◌ {A = ℕ} 0 1 = cc in omega arith
 
-pub pairs-all : (s : List ℕ) (first count : ℕ) → pairsFormed s (first + 2 * 0) (count - 0) ≡ pairsFormed s first count
+pub pairs-all : (s : List ℕ) (first count : ℕ) → pairs_formed s (first + 2 * 0) (count - 0) ≡ pairs_formed s first count
 pairs-all s first count =
     let e : first + 2 * 0 ≡ first = omega arith in
     let f : count - 0 ≡ count = omega arith in
@@ -172,13 +172,13 @@ pairs-all s first count =
 
 -- the i-th pair, and those after it
 pub pairs_next : (s : List ℕ) (first i count : ℕ) → i < count
-    → pairsFormed s (first + 2 * i) (count - i) ≡ pairFormed s (first + 2 * i) & pairsFormed s (first + 2 * (i + 1)) (count - (i + 1))
-unfolding pairsFormed
+    → pairs_formed s (first + 2 * i) (count - i) ≡ pair_formed s (first + 2 * i) & pairs_formed s (first + 2 * (i + 1)) (count - (i + 1))
+unfolding pairs_formed
 pairs_next s first i count h =
     let e : count - i ≡ suc (count - (i + 1)) = omega arith in
     let f : first + 2 * (i + 1) ≡ first + 2 * i + 2 = omega arith in
     rw (e, f)
 
-pub pairs-none : (s : List ℕ) (k n : ℕ) → n ≡ 0 → pairsFormed s k n ≡ true
-unfolding pairsFormed
+pub pairs-none : (s : List ℕ) (k n : ℕ) → n ≡ 0 → pairs_formed s k n ≡ true
+unfolding pairs_formed
 pairs-none s k n e = rw e

@@ -1,7 +1,7 @@
 // Settings from a host's bytes.
 ghost use Rattle.std.specs.Prelude.{◌≡◌, ◌+◌, ◌*◌, ◌<◌, ◌≤◌, length};
 ghost use Rattle.emdf_answers.specs.Form.{number_at};
-ghost use Rattle.emdf_settings_bytes.specs.Settings.{optionalAt, pairFormed, pairsFormed, settingsFormed, configOf, unformed, settingsOf};
+ghost use Rattle.emdf_settings_bytes.specs.Settings.{optional_at, pair_formed, pairs_formed, settings_formed, config_of, unformed, settings_of};
 
 use emdf_format::{EmdfPayloadConfig, Optional};
 use openjoc_bitio::{BitCursor, BitsAnswer};
@@ -11,7 +11,7 @@ const SETTINGS_BYTES: usize = 144;
 
 // The settings that bytes are; outside the form, settings that are not writable.
 pub fn settings_of(s: &[u8]) -> EmdfPayloadConfig
-    ensures { result ≡ settingsOf s.now }
+    ensures { result ≡ settings_of s.now }
 {
     if s.len() != SETTINGS_BYTES {
         return unformed_settings();
@@ -41,7 +41,7 @@ fn unformed_settings() -> EmdfPayloadConfig
 
 fn config_of(s: &[u8]) -> EmdfPayloadConfig
     requires { length s.now ≡ 144 }
-    ensures { result ≡ configOf s.now }
+    ensures { result ≡ config_of s.now }
 {
     EmdfPayloadConfig {
         sample_offset: optional_at(s, 0),
@@ -60,7 +60,7 @@ fn config_of(s: &[u8]) -> EmdfPayloadConfig
 // Whether the eight pairs of a presence and a value are of the form.
 fn settings_formed(s: &[u8]) -> bool
     requires { length s.now ≡ 144 }
-    ensures { result ≡ settingsFormed s.now }
+    ensures { result ≡ settings_formed s.now }
 {
     if !pairs_formed(s, 0, 3) {
         return false;
@@ -71,7 +71,7 @@ fn settings_formed(s: &[u8]) -> bool
 // Whether count pairs are, from number first on.
 fn pairs_formed(s: &[u8], first: usize, count: usize) -> bool
     requires { (length s.now ≡ 144) × (first + 2 * count ≤ 18) }
-    ensures { result ≡ pairsFormed s.now first count }
+    ensures { result ≡ pairs_formed s.now first count }
 {
     let mut i: usize = 0;
     while i < count {
@@ -86,7 +86,7 @@ fn pairs_formed(s: &[u8], first: usize, count: usize) -> bool
 // A presence of 1, or one of 0 and the value 0.
 fn pair_formed(s: &[u8], k: usize) -> bool
     requires { (length s.now ≡ 144) × (k < 17) }
-    ensures { result ≡ pairFormed s.now k }
+    ensures { result ≡ pair_formed s.now k }
 {
     let presence = number_at(s, k);
     if presence == 0 {
@@ -97,7 +97,7 @@ fn pair_formed(s: &[u8], k: usize) -> bool
 
 fn optional_at(s: &[u8], k: usize) -> Optional
     requires { (length s.now ≡ 144) × (k < 17) }
-    ensures { result ≡ optionalAt s.now k }
+    ensures { result ≡ optional_at s.now k }
 {
     if number_at(s, k) == 0 {
         return Optional::Absent;

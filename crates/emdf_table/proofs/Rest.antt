@@ -8,7 +8,7 @@ use borrow.Author.Tests.{le-leb, lt-leb}
 use native.Mathlib.Decide.{dec_lt}
 use Rattle.emdf_format.specs.Reading.{Reading, accepted, refusal}
 use Rattle.emdf_format.specs.Ordinals.{rows_of}
-use Rattle.emdf_format.specs.Calls.{in_table, tableAfter}
+use Rattle.emdf_format.specs.Calls.{in_table, table_after}
 use Rattle.emdf_format.specs.declared.PayloadRow.{PayloadRow}
 
 drop-append : {X : Type 0} (k : ℕ) (xs ys : List X) → k ≤ length xs → drop k (xs ++ ys) ≡ drop k xs ++ ys
@@ -17,8 +17,8 @@ drop-append (suc k) [] ys h = absurd (omega arith)
 drop-append (suc k) (x ∷ xs) ys h = drop-append k xs ys (omega arith)
 
 -- the rows that are not lent stay
-pub rest-stays : (before after : List PayloadRow) (x : Reading) → tableAfter (in_table (length before) x) before ++ after ≡ tableAfter (in_table (length before) x) (before ++ after)
-unfolding in_table tableAfter
+pub rest-stays : (before after : List PayloadRow) (x : Reading) → table_after (in_table (length before) x) before ++ after ≡ table_after (in_table (length before) x) (before ++ after)
+unfolding in_table table_after
 rest-stays before after (refusal why) = refl
 rest-stays before after (accepted n c) =
     elim (dec_lt (length before) (length c.found)) [

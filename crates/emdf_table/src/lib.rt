@@ -1,8 +1,8 @@
 // A reading into a table that is handed back by value: for callers who hold none.
 ghost use Rattle.std.specs.Prelude.{◌≡◌, ◌≤◌, replicate};
 ghost use Rattle.emdf_format.specs.Reading.{reading};
-ghost use Rattle.emdf_format.specs.Calls.{in_table, tableAfter};
-ghost use Rattle.emdf_records_plan.specs.Records.{recordsAnswer};
+ghost use Rattle.emdf_format.specs.Calls.{in_table, table_after};
+ghost use Rattle.emdf_records_plan.specs.Records.{records_answer};
 
 use emdf_format::PayloadRow;
 use emdf_records_plan::RecordsAnswer;
@@ -17,7 +17,7 @@ pub struct ReadTable {
 // Lends the first rows of a table whose rows are all the same, and hands the table back.
 pub fn read_table(bytes: &[u8], blank: PayloadRow, rows: usize) -> ReadTable
     requires { rows ≤ 512 }
-    ensures { (result.answer ≡ recordsAnswer (in_table rows (reading bytes.now))) × (result.table ≡ tableAfter (in_table rows (reading bytes.now)) (replicate 512 blank)) }
+    ensures { (result.answer ≡ records_answer (in_table rows (reading bytes.now))) × (result.table ≡ table_after (in_table rows (reading bytes.now)) (replicate 512 blank)) }
 {
     let mut table = [blank; 512];
     let answer = emdf_records::parse_emdf_sync_with_bit_trace(bytes, &mut table[..rows]);

@@ -1,40 +1,40 @@
 -- Numbers in short texts. Assumes nothing.
 use mathlib.Core.Path.{◌≡◌, refl}
 use mathlib.Core.List.{[], ◌∷◌}
-use Rattle.emdf_text.specs.Text.{digit, scan, decimalAt}
+use Rattle.emdf_text.specs.Text.{digit, scan, decimal_at}
 use Rattle.emdf_text.specs.declared.NumberAnswer.TheVariants.{Number, Nothing}
 
 -- "120 7"
-two-numbers : decimalAt (49 ∷ 50 ∷ 48 ∷ 32 ∷ 55 ∷ []) 0 ≡ Number 120 3
-unfolding digit scan decimalAt
+two-numbers : decimal_at (49 ∷ 50 ∷ 48 ∷ 32 ∷ 55 ∷ []) 0 ≡ Number 120 3
+unfolding digit scan decimal_at
 two-numbers = refl
 
 -- "120 7"
-second-number : decimalAt (49 ∷ 50 ∷ 48 ∷ 32 ∷ 55 ∷ []) 4 ≡ Number 7 5
-unfolding digit scan decimalAt
+second-number : decimal_at (49 ∷ 50 ∷ 48 ∷ 32 ∷ 55 ∷ []) 4 ≡ Number 7 5
+unfolding digit scan decimal_at
 second-number = refl
 
 -- "120 7"
-no_digit : decimalAt (49 ∷ 50 ∷ 48 ∷ 32 ∷ 55 ∷ []) 3 ≡ Nothing
-unfolding digit scan decimalAt
+no_digit : decimal_at (49 ∷ 50 ∷ 48 ∷ 32 ∷ 55 ∷ []) 3 ≡ Nothing
+unfolding digit scan decimal_at
 no_digit = refl
 
 -- "7"
-past-the-text : decimalAt (55 ∷ []) 1 ≡ Nothing
-unfolding digit scan decimalAt
+past-the-text : decimal_at (55 ∷ []) 1 ≡ Nothing
+unfolding digit scan decimal_at
 past-the-text = refl
 
 -- "18446744073709551615"
-largest : decimalAt (49 ∷ 56 ∷ 52 ∷ 52 ∷ 54 ∷ 55 ∷ 52 ∷ 52 ∷ 48 ∷ 55 ∷ 51 ∷ 55 ∷ 48 ∷ 57 ∷ 53 ∷ 53 ∷ 49 ∷ 54 ∷ 49 ∷ 53 ∷ []) 0 ≡ Number 18446744073709551615 20
-unfolding digit scan decimalAt
+largest : decimal_at (49 ∷ 56 ∷ 52 ∷ 52 ∷ 54 ∷ 55 ∷ 52 ∷ 52 ∷ 48 ∷ 55 ∷ 51 ∷ 55 ∷ 48 ∷ 57 ∷ 53 ∷ 53 ∷ 49 ∷ 54 ∷ 49 ∷ 53 ∷ []) 0 ≡ Number 18446744073709551615 20
+unfolding digit scan decimal_at
 largest = refl
 
 -- "18446744073709551616"
-too_large : decimalAt (49 ∷ 56 ∷ 52 ∷ 52 ∷ 54 ∷ 55 ∷ 52 ∷ 52 ∷ 48 ∷ 55 ∷ 51 ∷ 55 ∷ 48 ∷ 57 ∷ 53 ∷ 53 ∷ 49 ∷ 54 ∷ 49 ∷ 54 ∷ []) 0 ≡ Nothing
-unfolding digit scan decimalAt
+too_large : decimal_at (49 ∷ 56 ∷ 52 ∷ 52 ∷ 54 ∷ 55 ∷ 52 ∷ 52 ∷ 48 ∷ 55 ∷ 51 ∷ 55 ∷ 48 ∷ 57 ∷ 53 ∷ 53 ∷ 49 ∷ 54 ∷ 49 ∷ 54 ∷ []) 0 ≡ Nothing
+unfolding digit scan decimal_at
 too_large = refl
 
 -- "007"
-zeros : decimalAt (48 ∷ 48 ∷ 55 ∷ []) 0 ≡ Number 7 3
-unfolding digit scan decimalAt
+zeros : decimal_at (48 ∷ 48 ∷ 55 ∷ []) 0 ≡ Number 7 3
+unfolding digit scan decimal_at
 zeros = refl

@@ -8,7 +8,7 @@ use lib.ListN.{length, get_or, drop, length-drop, drop_of_length-le}
 use lib.Seq.{drop-cons}
 use lib.Dec.{ltb, leb}
 use borrow.Author.Tests.{leb-true}
-use Rattle.emdf_text.specs.Text.{digit, digitStep, scan, decimalAt}
+use Rattle.emdf_text.specs.Text.{digit, digit_step, scan, decimal_at}
 use Rattle.emdf_text.specs.declared.NumberAnswer.{NumberAnswer}
 use Rattle.emdf_text.specs.declared.NumberAnswer.TheVariants.{Number, Nothing}
 use Rattle.emdf_text.specs.declared.DigitStep.{DigitStep}
@@ -38,9 +38,9 @@ scan-cases true true w v i bs = refl
 scan-cases true false w v i bs = refl
 scan-cases false q w v i bs = refl
 
-pub scan_step : (s : List ℕ) (v i : ℕ) (step : DigitStep) → i < length s → step ≡ digitStep v (get_or s i 0)
+pub scan_step : (s : List ℕ) (v i : ℕ) (step : DigitStep) → i < length s → step ≡ digit_step v (get_or s i 0)
     → scan v i (drop i s) ≡ after step v i (drop (suc i) s)
-unfolding scan digitStep
+unfolding scan digit_step
 scan_step s v i step h e =
     let b = get_or s i 0 in
     rw (drop-cons s i 0, e) (scan-cases (digit b) (ltb (v * 10 + (b - 48)) (2 ^ 64)) (v * 10 + (b - 48)) v i (drop (suc i) s))
@@ -86,6 +86,6 @@ number-cases s at v n true d e =
 number-cases s at v n false d e = let z : ◌≡◌ {A = ℕ} 0 1 = cc in omega arith
 
 -- a number has a digit, and ends in the text
-pub number-inside : (s : List ℕ) (at v n : ℕ) → decimalAt s at ≡ Number v n → (at < n) × (n ≤ length s)
-unfolding decimalAt
+pub number-inside : (s : List ℕ) (at v n : ℕ) → decimal_at s at ≡ Number v n → (at < n) × (n ≤ length s)
+unfolding decimal_at
 number-inside s at v n e = number-cases s at v n (digit (get_or s at 0)) refl e

@@ -16,9 +16,9 @@ scan v i (b ∷ bs) =
     cond (digit b) (cond (ltb (v * 10 + (b - 48)) (2 ^ 64)) (scan (v * 10 + (b - 48)) (suc i) bs) Nothing) (Number v i)
 
 -- the number whose digits start at index at, and the index past its last digit
-unfoldable pub decimalAt : List ℕ → ℕ → NumberAnswer
-decimalAt s at = cond (digit (get_or s at 0)) (scan 0 at (drop at s)) Nothing
+unfoldable pub decimal_at : List ℕ → ℕ → NumberAnswer
+decimal_at s at = cond (digit (get_or s at 0)) (scan 0 at (drop at s)) Nothing
 
 -- one byte of a scan
-unfoldable pub digitStep : ℕ → ℕ → DigitStep
-digitStep v b = cond (digit b) (cond (ltb (v * 10 + (b - 48)) (2 ^ 64)) (Next (v * 10 + (b - 48))) TooLarge) End
+unfoldable pub digit_step : ℕ → ℕ → DigitStep
+digit_step v b = cond (digit b) (cond (ltb (v * 10 + (b - 48)) (2 ^ 64)) (Next (v * 10 + (b - 48))) TooLarge) End

@@ -2,7 +2,7 @@
 mod lines;
 
 ghost use Rattle.std.specs.Prelude.{◌≡◌, drop};
-ghost use Rattle.emdf_text.specs.Text.{digit, digitStep, scan, decimalAt};
+ghost use Rattle.emdf_text.specs.Text.{digit, digit_step, scan, decimal_at};
 
 pub use lines::{put_decimal, put_line};
 
@@ -24,7 +24,7 @@ enum DigitStep {
 
 // The number whose digits start at index at.
 pub fn number_at(text: &[u8], at: usize) -> NumberAnswer
-    ensures { result ≡ decimalAt text.now at }
+    ensures { result ≡ decimal_at text.now at }
 {
     if text.len() <= at {
         return NumberAnswer::Nothing;
@@ -55,7 +55,7 @@ fn number_from(text: &[u8], at: usize) -> NumberAnswer
 }
 
 fn digit_step(value: u64, byte: u8) -> DigitStep
-    ensures { result ≡ digitStep value byte }
+    ensures { result ≡ digit_step value byte }
 {
     if !is_digit(byte) {
         return DigitStep::End;

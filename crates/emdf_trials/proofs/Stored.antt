@@ -8,7 +8,7 @@ use lib.Seq.{sets, drop-cons}
 use Rattle.emdf_format.specs.declared.PayloadRow.{PayloadRow}
 use Rattle.emdf_format.proofs.Bytes.{sets-append}
 use Rattle.emdf_answers.specs.Form.{words}
-use Rattle.emdf_answers.specs.Carriers.{rowWords, rowsBytes}
+use Rattle.emdf_answers.specs.Carriers.{row_words, rows_bytes}
 use Rattle.emdf_rows.proofs.Rows.{length-row}
 
 -- the next of n, and those after it
@@ -37,13 +37,13 @@ byte-stored n i out bytes h k = let b : i + 1 ≡ suc i = omega arith in rw (nex
 -- ---- rows
 
 pub row-stored : (n i : ℕ) (table : List ℕ) (rows : List PayloadRow) (d : PayloadRow) → i < n → i < length rows
-    → sets (sets table (i * 224) (words (rowWords (get_or rows i d)))) ((i + 1) * 224) (rowsBytes (take (n - (i + 1)) (drop (i + 1) rows))) ≡ sets table (i * 224) (rowsBytes (take (n - i) (drop i rows)))
-unfolding rowsBytes
+    → sets (sets table (i * 224) (words (row_words (get_or rows i d)))) ((i + 1) * 224) (rows_bytes (take (n - (i + 1)) (drop (i + 1) rows))) ≡ sets table (i * 224) (rows_bytes (take (n - i) (drop i rows)))
+unfolding rows_bytes
 row-stored n i table rows d h k =
     let r = get_or rows i d in
-    let e : (i + 1) * 224 ≡ i * 224 + length (words (rowWords r)) = omega (arith, length-row r) in
-    rw (next n i rows d h k, e) (sym (sets-append table (i * 224) (words (rowWords r)) (rowsBytes (take (n - (i + 1)) (drop (i + 1) rows)))))
+    let e : (i + 1) * 224 ≡ i * 224 + length (words (row_words r)) = omega (arith, length-row r) in
+    rw (next n i rows d h k, e) (sym (sets-append table (i * 224) (words (row_words r)) (rows_bytes (take (n - (i + 1)) (drop (i + 1) rows)))))
 
-pub rows-done : (n i : ℕ) (table : List ℕ) (rows : List PayloadRow) → n ≤ i → table ≡ sets table (i * 224) (rowsBytes (take (n - i) (drop i rows)))
-unfolding rowsBytes
+pub rows-done : (n i : ℕ) (table : List ℕ) (rows : List PayloadRow) → n ≤ i → table ≡ sets table (i * 224) (rows_bytes (take (n - i) (drop i rows)))
+unfolding rows_bytes
 rows-done n i table rows h = rw (all-taken n i rows h)

@@ -1,7 +1,6 @@
 -- What the exported trials return and write. Assumes nothing.
-use Rattle.std.specs.Prelude.{List, Bool, true, false, ℕ, ◌/◌, ◌%◌, take, replicate, leb, eqb}
-use Rattle.openjoc_bitio.specs.Choice.{if◌then◌else◌}
-use Rattle.openjoc_bitio.specs.Cursor.{wholeSlice, bitsRemaining, readBits, readBit, takeBits, byteAlign}
+use Rattle.std.specs.Prelude.{List, Bool, true, false, ℕ, ◌/◌, ◌%◌, take, replicate, leb, eqb, if◌then◌else◌}
+use Rattle.openjoc_bitio.specs.Cursor.{whole_slice, bits_remaining, read_bits, read_bit, take_bits, byte_align}
 use Rattle.openjoc_bitio.specs.declared.BitCursor.{BitCursor}
 use Rattle.openjoc_bitio.specs.declared.BitsAnswer.{BitsAnswer}
 use Rattle.openjoc_bitio.specs.declared.BitsAnswer.TheVariants as BitsAnswer
@@ -18,61 +17,61 @@ use Rattle.openjoc_bit_reader.specs.declared.BitResult.TheVariants as BitResult
 use Rattle.openjoc_bit_reader.specs.declared.MoveResult.{MoveResult}
 use Rattle.openjoc_bit_reader.specs.declared.MoveResult.TheVariants as MoveResult
 use Rattle.emdf_format.specs.Reading.{reading}
-use Rattle.emdf_format.specs.Refusals.{refusalOf, figuresOf}
-use Rattle.emdf_format.specs.Calls.{Records, in_table, tableAfter}
+use Rattle.emdf_format.specs.Refusals.{refusal_of, figures_of}
+use Rattle.emdf_format.specs.Calls.{Records, in_table, table_after}
 use Rattle.emdf_format.specs.declared.Optional.TheVariants.{Present}
 use Rattle.emdf_format.specs.declared.PayloadRow.{PayloadRow}
 use Rattle.openjoc_emdf.specs.declared.ParseAnswer.{ParseAnswer}
 use Rattle.openjoc_emdf.specs.declared.ParseAnswer.TheVariants as ParseAnswer
-use Rattle.emdf_answers.specs.Bits.{accepted, bitsReply, bitReply, windowReply, alignReply}
-use Rattle.emdf_answers.specs.Form.{rowBytes}
-use Rattle.emdf_answers.specs.Replies.{Reply, acceptedReply, refusedReply}
-use Rattle.emdf_answers.specs.Carriers.{parsedWords}
+use Rattle.emdf_answers.specs.Bits.{accepted, bits_reply, bit_reply, window_reply, align_reply}
+use Rattle.emdf_answers.specs.Form.{row_bytes}
+use Rattle.emdf_answers.specs.Replies.{Reply, accepted_reply, refused_reply}
+use Rattle.emdf_answers.specs.Carriers.{parsed_words}
 use Rattle.emdf_answers.specs.declared.BitReply.{BitReply}
 
 -- ---- a BitReader's call: what the call at its cursor answers
 
 -- a reader's result and the cursor that it is left at, as the answer at a cursor by value
-abbrev pub bitsAnswerOf : BitsResult → BitCursor → BitsAnswer
-bitsAnswerOf (BitsResult.Ok v) c = BitsAnswer.Value v c
-bitsAnswerOf (BitsResult.Err why) c = BitsAnswer.Refused why
+abbrev pub bits_answer_of : BitsResult → BitCursor → BitsAnswer
+bits_answer_of (BitsResult.Ok v) c = BitsAnswer.Value v c
+bits_answer_of (BitsResult.Err why) c = BitsAnswer.Refused why
 
-abbrev pub bitAnswerOf : BitResult → BitCursor → BitAnswer
-bitAnswerOf (BitResult.Ok b) c = BitAnswer.Bit b c
-bitAnswerOf (BitResult.Err why) c = BitAnswer.Refused why
+abbrev pub bit_answer_of : BitResult → BitCursor → BitAnswer
+bit_answer_of (BitResult.Ok b) c = BitAnswer.Bit b c
+bit_answer_of (BitResult.Err why) c = BitAnswer.Refused why
 
-abbrev pub windowAnswerOf : MoveResult → BitCursor → BitCursor → WindowAnswer
-windowAnswerOf MoveResult.Ok w c = WindowAnswer.Window w c
-windowAnswerOf (MoveResult.Err why) w c = WindowAnswer.Refused why
+abbrev pub window_answer_of : MoveResult → BitCursor → BitCursor → WindowAnswer
+window_answer_of MoveResult.Ok w c = WindowAnswer.Window w c
+window_answer_of (MoveResult.Err why) w c = WindowAnswer.Refused why
 
-abbrev pub alignAnswerOf : MoveResult → BitCursor → AlignAnswer
-alignAnswerOf MoveResult.Ok c = AlignAnswer.Aligned c
-alignAnswerOf (MoveResult.Err why) c = AlignAnswer.Refused why
+abbrev pub align_answer_of : MoveResult → BitCursor → AlignAnswer
+align_answer_of MoveResult.Ok c = AlignAnswer.Aligned c
+align_answer_of (MoveResult.Err why) c = AlignAnswer.Refused why
 
 -- the call of this number; a width is a byte
-unfoldable pub readerReply : ℕ → List ℕ → BitCursor → ℕ → BitReply
-readerReply k s c n =
+unfoldable pub reader_reply : ℕ → List ℕ → BitCursor → ℕ → BitReply
+reader_reply k s c n =
     if eqb k 0
-    then accepted (wholeSlice s) 0
+    then accepted (whole_slice s) 0
     else (if eqb k 1
-    then accepted c (bitsRemaining s c)
+    then accepted c (bits_remaining s c)
     else (if eqb k 2
-    then bitsReply c (readBits s c (n % 256))
-    else (if eqb k 3 then bitReply c (readBit s c) else (if eqb k 4 then windowReply c (takeBits s c n) else alignReply c (byteAlign s c)))))
+    then bits_reply c (read_bits s c (n % 256))
+    else (if eqb k 3 then bit_reply c (read_bit s c) else (if eqb k 4 then window_reply c (take_bits s c n) else align_reply c (byte_align s c)))))
 
 -- ---- a reading without a table
 
-unfoldable pub parseReply : ParseAnswer → Reply
-parseReply (ParseAnswer.Parsed p) = acceptedReply (parsedWords p)
-parseReply (ParseAnswer.Refused why) = refusedReply 10 (figuresOf (refusalOf why))
+unfoldable pub parse_reply : ParseAnswer → Reply
+parse_reply (ParseAnswer.Parsed p) = accepted_reply (parsed_words p)
+parse_reply (ParseAnswer.Refused why) = refused_reply 10 (figures_of (refusal_of why))
 
 -- ---- a reading into rows
 
 abbrev pub most : ℕ
 most = 0xffffffffffffffff
 
-abbrev pub blankRow : PayloadRow
-blankRow = record {
+abbrev pub blank_row : PayloadRow
+blank_row = record {
   payload = record {
     id = most;
     config = record {
@@ -102,15 +101,15 @@ blankRow = record {
 }
 
 -- the rows that are lent, where a table has so many bytes
-unfoldable pub tableRows : ℕ → ℕ
-tableRows bytes = if leb (bytes / rowBytes) 512 then bytes / rowBytes else 512
+unfoldable pub table_rows : ℕ → ℕ
+table_rows bytes = if leb (bytes / row_bytes) 512 then bytes / row_bytes else 512
 
-abbrev pub recordsRead : List ℕ → ℕ → Records
-recordsRead s bytes = in_table (tableRows bytes) (reading s)
+abbrev pub records_read : List ℕ → ℕ → Records
+records_read s bytes = in_table (table_rows bytes) (reading s)
 
 -- those rows after the reading
-unfoldable pub readRows : List ℕ → ℕ → List PayloadRow
-readRows s bytes = take (tableRows bytes) (tableAfter (recordsRead s bytes) (replicate 512 blankRow))
+unfoldable pub read_rows : List ℕ → ℕ → List PayloadRow
+read_rows s bytes = take (table_rows bytes) (table_after (records_read s bytes) (replicate 512 blank_row))
 
 -- ---- bits put into a buffer
 

@@ -2,18 +2,18 @@
 // emdf_host (docs/HOST.md).
 ghost use Rattle.std.specs.Prelude.{◌≡◌, ◌*◌, ◌≤◌, length, take};
 ghost use Rattle.std.proofs.lemmas.List.Edits.{sets};
-ghost use Rattle.emdf_format.specs.Syntax.{octetBits};
+ghost use Rattle.emdf_format.specs.Syntax.{octet_bits};
 ghost use Rattle.emdf_format.specs.Reading.{reading};
-ghost use Rattle.emdf_format.specs.Calls.{found_at, chooseBody};
+ghost use Rattle.emdf_format.specs.Calls.{found_at, choose_body};
 ghost use Rattle.emdf_format.specs.Profile.{verdict};
 ghost use Rattle.emdf_format.specs.declared.JocValidationProfile.TheVariants.{EtsiStrict};
-ghost use Rattle.emdf_writer.specs.Writing.{numberFits, runFits, numberPut, bitByBit};
-ghost use Rattle.openjoc_emdf.specs.Answers.{parseAnswer};
-ghost use Rattle.emdf_answers.specs.Bits.{BitReplies, bitsReply, bitReply, windowReply, alignReply};
+ghost use Rattle.emdf_writer.specs.Writing.{number_fits_in, run_fits_in, number_put, bit_by_bit};
+ghost use Rattle.openjoc_emdf.specs.Answers.{parse_answer};
+ghost use Rattle.emdf_answers.specs.Bits.{BitReplies, bits_reply, bit_reply, window_reply, align_reply};
 ghost use Rattle.emdf_answers.specs.Replies.{Replies};
-ghost use Rattle.emdf_answers.specs.Carriers.{readReply, rowsBytes};
-ghost use Rattle.emdf_answers.specs.Verdict.{verdictReply};
-ghost use Rattle.emdf_trials.specs.Trials.{bitsAnswerOf, bitAnswerOf, windowAnswerOf, alignAnswerOf, readerReply, parseReply, blankRow, tableRows, readRows, recordsRead, told};
+ghost use Rattle.emdf_answers.specs.Carriers.{read_reply, rows_bytes};
+ghost use Rattle.emdf_answers.specs.Verdict.{verdict_reply};
+ghost use Rattle.emdf_trials.specs.Trials.{bits_answer_of, bit_answer_of, window_answer_of, align_answer_of, reader_reply, parse_reply, blank_row, table_rows, read_rows, records_read, told};
 
 use emdf_answers::BitReply;
 use emdf_format::{
@@ -37,14 +37,14 @@ pub extern "C" fn trial_reader(
     argument: usize,
     answer: &mut [u8; 48],
 ) -> u32
-    ensures { BitReplies (readerReply call bytes.now (record { position = position; end = end }) argument) result answer.new }
+    ensures { BitReplies (reader_reply call bytes.now (record { position = position; end = end }) argument) result answer.new }
 {
     let cursor = BitCursor { position, end };
     emdf_rows::put_reply(answer, reader_reply(call, bytes, cursor, argument))
 }
 
 fn reader_reply(call: u32, bytes: &[u8], cursor: BitCursor, argument: usize) -> BitReply
-    ensures { result ≡ readerReply call bytes.now cursor argument }
+    ensures { result ≡ reader_reply call bytes.now cursor argument }
 {
     match call {
         0 => emdf_answers::accepted_at(reader_calls::new(bytes), 0),
@@ -64,7 +64,7 @@ fn reader_reply(call: u32, bytes: &[u8], cursor: BitCursor, argument: usize) -> 
 
 // A step in the host's form: as the answer at a cursor by value, and with the cursor that the reader is left at.
 fn bits_step_reply(step: BitsStep) -> BitReply
-    ensures { result ≡ bitsReply step.cursor (bitsAnswerOf step.result step.cursor) }
+    ensures { result ≡ bits_reply step.cursor (bits_answer_of step.result step.cursor) }
 {
     let cursor = step.cursor;
     let result = step.result;
@@ -75,7 +75,7 @@ fn bits_step_reply(step: BitsStep) -> BitReply
 }
 
 fn bit_step_reply(step: BitStep) -> BitReply
-    ensures { result ≡ bitReply step.cursor (bitAnswerOf step.result step.cursor) }
+    ensures { result ≡ bit_reply step.cursor (bit_answer_of step.result step.cursor) }
 {
     let cursor = step.cursor;
     let result = step.result;
@@ -86,7 +86,7 @@ fn bit_step_reply(step: BitStep) -> BitReply
 }
 
 fn window_step_reply(step: WindowStep) -> BitReply
-    ensures { result ≡ windowReply step.cursor (windowAnswerOf step.result step.window step.cursor) }
+    ensures { result ≡ window_reply step.cursor (window_answer_of step.result step.window step.cursor) }
 {
     let cursor = step.cursor;
     let window = step.window;
@@ -98,7 +98,7 @@ fn window_step_reply(step: WindowStep) -> BitReply
 }
 
 fn align_step_reply(step: AlignStep) -> BitReply
-    ensures { result ≡ alignReply step.cursor (alignAnswerOf step.result step.cursor) }
+    ensures { result ≡ align_reply step.cursor (align_answer_of step.result step.cursor) }
 {
     let cursor = step.cursor;
     let result = step.result;
@@ -111,7 +111,7 @@ fn align_step_reply(step: AlignStep) -> BitReply
 // parse_emdf_sync, with the answer of emdf_read.
 #[unsafe(no_mangle)]
 pub extern "C" fn trial_parse(bytes: &[u8], answer: &mut [u8; 80]) -> u32
-    ensures { Replies (parseReply (parseAnswer (reading bytes.now))) result answer.new }
+    ensures { Replies (parse_reply (parse_answer (reading bytes.now))) result answer.new }
 {
     let a = openjoc_emdf::parse_emdf_sync(bytes);
     match a {
@@ -126,7 +126,7 @@ pub extern "C" fn trial_parse(bytes: &[u8], answer: &mut [u8; 80]) -> u32
 // those of payloads and those that have to be blank still.
 #[unsafe(no_mangle)]
 pub extern "C" fn trial_trace(bytes: &[u8], table: &mut [u8], answer: &mut [u8; 80]) -> u32
-    ensures { Replies (readReply (recordsRead bytes.now (length table.old))) result answer.new × (table.new ≡ sets table.old 0 (rowsBytes (readRows bytes.now (length table.old)))) }
+    ensures { Replies (read_reply (records_read bytes.now (length table.old))) result answer.new × (table.new ≡ sets table.old 0 (rows_bytes (read_rows bytes.now (length table.old)))) }
 {
     let rows = table_rows(table.len());
     let read = emdf_table::read_table(bytes, blank_row(), rows);
@@ -142,7 +142,7 @@ pub extern "C" fn trial_trace(bytes: &[u8], table: &mut [u8], answer: &mut [u8; 
 }
 
 fn table_rows(bytes: usize) -> usize
-    ensures { (result ≡ tableRows bytes) × (result ≤ 512) × (result * 224 ≤ bytes) }
+    ensures { (result ≡ table_rows bytes) × (result ≤ 512) × (result * 224 ≤ bytes) }
 {
     let rows = bytes / emdf_rows::ROW_BYTES;
     if 512 < rows {
@@ -153,7 +153,7 @@ fn table_rows(bytes: usize) -> usize
 
 // No payload has it: each number is the largest.
 fn blank_row() -> PayloadRow
-    ensures { result ≡ blankRow }
+    ensures { result ≡ blank_row }
 {
     let most = Optional::Present(0xffff_ffff_ffff_ffff);
     let bit = BitOffset(0xffff_ffff_ffff_ffff);
@@ -192,7 +192,7 @@ fn blank_row() -> PayloadRow
 
 fn put_table(table: &mut [u8], lent: [PayloadRow; 512], rows: usize)
     requires { (rows ≤ 512) × (rows * 224 ≤ length table.old) }
-    ensures { table.new ≡ sets table.old 0 (rowsBytes (take rows lent)) }
+    ensures { table.new ≡ sets table.old 0 (rows_bytes (take rows lent)) }
 {
     let mut i: usize = 0;
     while i < rows {
@@ -210,7 +210,7 @@ pub extern "C" fn trial_choose_body<'a>(
     scratch: &'a [u8],
     chosen: &mut [u8],
 ) -> usize
-    ensures { (result ≡ length (chooseBody (found_at (reading bytes.now) place) bytes.now scratch.now)) × (chosen.new ≡ sets chosen.old 0 (take (length chosen.old) (chooseBody (found_at (reading bytes.now) place) bytes.now scratch.now))) }
+    ensures { (result ≡ length (choose_body (found_at (reading bytes.now) place) bytes.now scratch.now)) × (chosen.new ≡ sets chosen.old 0 (take (length chosen.old) (choose_body (found_at (reading bytes.now) place) bytes.now scratch.now))) }
 {
     let body = emdf_bodies::choose_body(bytes, place, scratch);
     put_bytes(chosen, body);
@@ -233,7 +233,7 @@ fn put_bytes(out: &mut [u8], bytes: &[u8])
 // validate_joc_profile, with the answer of emdf_verdict.
 #[unsafe(no_mangle)]
 pub extern "C" fn trial_verdict(bytes: &[u8], answer: &mut [u8; 40]) -> u32
-    ensures { Replies (verdictReply (verdict EtsiStrict bytes.now)) result answer.new }
+    ensures { Replies (verdict_reply (verdict EtsiStrict bytes.now)) result answer.new }
 {
     let judged = joc_profile::validate_joc_profile(bytes);
     let values = emdf_answers::verdict_words(judged);
@@ -250,7 +250,7 @@ pub extern "C" fn trial_copy(
     from: usize,
     bits: usize,
 ) -> u32
-    ensures { (result ≡ told (runFits out.old at bytes.now from bits)) × (out.new ≡ bitByBit out.old at bytes.now from bits) }
+    ensures { (result ≡ told (run_fits_in out.old at bytes.now from bits)) × (out.new ≡ bit_by_bit out.old at bytes.now from bits) }
 {
     tell(emdf_writer::copy_bits(out, at, bytes, from, bits))
 }
@@ -258,7 +258,7 @@ pub extern "C" fn trial_copy(
 // put_number: 1 where the number was put, else 0.
 #[unsafe(no_mangle)]
 pub extern "C" fn trial_put(out: &mut [u8], at: usize, width: usize, value: u64) -> u32
-    ensures { (result ≡ told (numberFits out.old at width)) × (octetBits out.new ≡ numberPut out.old at width value) }
+    ensures { (result ≡ told (number_fits_in out.old at width)) × (octet_bits out.new ≡ number_put out.old at width value) }
 {
     tell(emdf_writer::put_number(out, at, width, value))
 }

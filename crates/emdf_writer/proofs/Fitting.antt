@@ -9,12 +9,12 @@ use lib.ListN.{length}
 use lib.Dec.{leb, ltb}
 use lib.Seq.{sets}
 use borrow.Author.Tests.{leb-true, ltb-true, le-leb, lt-leb}
-use Rattle.openjoc_bitio.specs.Choice.{if◌then◌else◌}
-use Rattle.openjoc_bitio.specs.Bits.{numberBits}
-use Rattle.openjoc_bitio.specs.Cursor.{bitLength}
-use Rattle.emdf_format.specs.Syntax.{octetBits}
+use Rattle.std.specs.Prelude.{if◌then◌else◌}
+use Rattle.openjoc_bitio.specs.Bits.{number_bits}
+use Rattle.openjoc_bitio.specs.Cursor.{bit_length}
+use Rattle.emdf_format.specs.Syntax.{octet_bits}
 use Rattle.emdf_format.specs.Contents.{◌&◌}
-use Rattle.emdf_writer.specs.Writing.{numberFits, runFits, numberPut, bitsPut, bitByBit}
+use Rattle.emdf_writer.specs.Writing.{number_fits_in, run_fits_in, number_put, bits_put, bit_by_bit}
 
 -- the test without the sum
 pub room-test : (limit at n : ℕ) → at ≤ limit → leb n (limit - at) ≡ leb (at + n) limit
@@ -29,8 +29,8 @@ pub record Inside (s : List ℕ) (at n : ℕ) : Type 0 where
   pub within : at + n ≤ length s * 8
   pub small : at + n < 2 ^ 64
 
-pub inside : (s : List ℕ) (at n : ℕ) → leb (at + n) (bitLength s) ≡ true → Inside s at n
-unfolding bitLength
+pub inside : (s : List ℕ) (at n : ℕ) → leb (at + n) (bit_length s) ≡ true → Inside s at n
+unfolding bit_length
 inside s at n h = go (ltb (length s) (2 ^ 61)) (λ e. ltb-true (length s) (2 ^ 61) e) (leb-true (at + n) (if ltb (length s) (2 ^ 61) then length s * 8 else 0) h)
   where
     go : (t : Bool) → (t ≡ true → length s < 2 ^ 61) → at + n ≤ (if t then length s * 8 else 0) → Inside s at n
@@ -41,35 +41,35 @@ inside s at n h = go (ltb (length s) (2 ^ 61)) (λ e. ltb-true (length s) (2 ^ 6
 
 -- what is answered, and the bits that are left
 abbrev Number : List ℕ → ℕ → ℕ → ℕ → Bool → List ℕ → Type 0
-Number out at w v r bits = (r ≡ numberFits out at w) × (bits ≡ numberPut out at w v)
+Number out at w v r bits = (r ≡ number_fits_in out at w) × (bits ≡ number_put out at w v)
 
-pub number-wide : (out : List ℕ) (at w v : ℕ) → 64 < w → Number out at w v false (octetBits out)
-unfolding numberPut numberFits ◌&◌
+pub number-wide : (out : List ℕ) (at w v : ℕ) → 64 < w → Number out at w v false (octet_bits out)
+unfolding number_put number_fits_in ◌&◌
 number-wide out at w v h = simp (lt-leb w 64 h) (refl, refl)
 
-pub number-out : (out : List ℕ) (at w v : ℕ) → w ≤ 64 → leb (at + w) (bitLength out) ≡ false → Number out at w v false (octetBits out)
-unfolding numberPut numberFits ◌&◌
+pub number-out : (out : List ℕ) (at w v : ℕ) → w ≤ 64 → leb (at + w) (bit_length out) ≡ false → Number out at w v false (octet_bits out)
+unfolding number_put number_fits_in ◌&◌
 number-out out at w v h e = simp (le-leb w 64 h, e) (refl, refl)
 
-pub number_in : (out : List ℕ) (at w v : ℕ) → w ≤ 64 → leb (at + w) (bitLength out) ≡ true → Number out at w v true (sets (octetBits out) at (numberBits w v))
-unfolding numberPut numberFits ◌&◌
+pub number_in : (out : List ℕ) (at w v : ℕ) → w ≤ 64 → leb (at + w) (bit_length out) ≡ true → Number out at w v true (sets (octet_bits out) at (number_bits w v))
+unfolding number_put number_fits_in ◌&◌
 number_in out at w v h e = simp (le-leb w 64 h, e) (refl, refl)
 
 -- ---- a run of bits
 
 -- what is answered, and the bytes that are left
 abbrev Run : List ℕ → ℕ → List ℕ → ℕ → ℕ → Bool → List ℕ → Type 0
-Run out at s p n r exit = (r ≡ runFits out at s p n) × (exit ≡ bitByBit out at s p n)
+Run out at s p n r exit = (r ≡ run_fits_in out at s p n) × (exit ≡ bit_by_bit out at s p n)
 
 module _ (out : List ℕ) (at : ℕ) (s : List ℕ) (p n : ℕ) where
-  pub run-away : leb (p + n) (bitLength s) ≡ false → Run out at s p n false out
-  unfolding bitByBit runFits ◌&◌
+  pub run-away : leb (p + n) (bit_length s) ≡ false → Run out at s p n false out
+  unfolding bit_by_bit run_fits_in ◌&◌
   run-away e = simp e (refl, refl)
 
-  pub run_out : leb (p + n) (bitLength s) ≡ true → leb (at + n) (bitLength out) ≡ false → Run out at s p n false out
-  unfolding bitByBit runFits ◌&◌
+  pub run_out : leb (p + n) (bit_length s) ≡ true → leb (at + n) (bit_length out) ≡ false → Run out at s p n false out
+  unfolding bit_by_bit run_fits_in ◌&◌
   run_out h e = simp (h, e) (refl, refl)
 
-  pub run_in : leb (p + n) (bitLength s) ≡ true → leb (at + n) (bitLength out) ≡ true → Run out at s p n true (bitsPut out at s p n)
-  unfolding bitByBit runFits ◌&◌
+  pub run_in : leb (p + n) (bit_length s) ≡ true → leb (at + n) (bit_length out) ≡ true → Run out at s p n true (bits_put out at s p n)
+  unfolding bit_by_bit run_fits_in ◌&◌
   run_in h e = simp (h, e) (refl, refl)

@@ -1,17 +1,17 @@
 // Numbers and runs of bits, written into a caller's bytes at any bit position.
 ghost use Rattle.std.specs.Prelude.{◌≡◌, ◌+◌, ◌-◌, ◌*◌, ◌/◌, ◌%◌, ◌^◌, ◌<◌, ◌≤◌, length, get_or, leb};
 ghost use Rattle.std.proofs.lemmas.List.Edits.{sets};
-ghost use Rattle.openjoc_bitio.specs.Bits.{bitsValue, numberBits};
-ghost use Rattle.openjoc_bitio.specs.Cursor.{bitLength};
-ghost use Rattle.emdf_format.specs.Syntax.{octetBits};
-ghost use Rattle.emdf_writer.specs.Writing.{bitRun, numberFits, runFits, numberPut, byteWith, bitByBit};
+ghost use Rattle.openjoc_bitio.specs.Bits.{bits_value, number_bits};
+ghost use Rattle.openjoc_bitio.specs.Cursor.{bit_length};
+ghost use Rattle.emdf_format.specs.Syntax.{octet_bits};
+ghost use Rattle.emdf_writer.specs.Writing.{bit_run, number_fits_in, run_fits_in, number_put, byte_with, bit_by_bit};
 
 use openjoc_bitio::BitCursor;
 
 // The width low bits of v, from bit at on, the most significant first. Answers whether they were put: nothing is where they don't
 // fit, or the width is above 64.
 pub fn put_number(out: &mut [u8], at: usize, width: usize, v: u64) -> bool
-    ensures { (result ≡ numberFits out.old at width) × (octetBits out.new ≡ numberPut out.old at width v) }
+    ensures { (result ≡ number_fits_in out.old at width) × (octet_bits out.new ≡ number_put out.old at width v) }
 {
     if 64 < width {
         return false;
@@ -26,7 +26,7 @@ pub fn put_number(out: &mut [u8], at: usize, width: usize, v: u64) -> bool
 // The 16 low bits of v, in the bytes at i and i + 1.
 pub fn put_u16(out: &mut [u8], i: usize, v: u64)
     requires { i + 1 < length out.old }
-    ensures { octetBits out.new ≡ sets (octetBits out.old) (i * 8) (numberBits 16 v) }
+    ensures { octet_bits out.new ≡ sets (octet_bits out.old) (i * 8) (number_bits 16 v) }
 {
     out[i] = (v / 256 % 256) as u8;
     out[i + 1] = (v % 256) as u8;
@@ -35,7 +35,7 @@ pub fn put_u16(out: &mut [u8], i: usize, v: u64)
 // n bits of s from bit from on, to out from bit at on: every byte is as if they were taken one by one. Answers whether they were put:
 // nothing is where they are not there, or don't fit.
 pub fn copy_bits(out: &mut [u8], at: usize, s: &[u8], from: usize, n: usize) -> bool
-    ensures { (result ≡ runFits out.old at s.now from n) × (out.new ≡ bitByBit out.old at s.now from n) }
+    ensures { (result ≡ run_fits_in out.old at s.now from n) × (out.new ≡ bit_by_bit out.old at s.now from n) }
 {
     if !has_bits(s, from, n) {
         return false;
@@ -49,7 +49,7 @@ pub fn copy_bits(out: &mut [u8], at: usize, s: &[u8], from: usize, n: usize) -> 
 
 // Whether s has n bits from bit at on.
 fn has_bits(s: &[u8], at: usize, n: usize) -> bool
-    ensures { result ≡ leb (at + n) (bitLength s.now) }
+    ensures { result ≡ leb (at + n) (bit_length s.now) }
 {
     let limit = BitCursor::new(s).end;
     if limit < at {
@@ -61,7 +61,7 @@ fn has_bits(s: &[u8], at: usize, n: usize) -> bool
 // The byte b with the t bits of v in place of those above its low ones.
 fn byte_with(b: u8, t: usize, below: usize, v: u64) -> u8
     requires { (t + below ≤ 8) × (v < 2 ^ t) }
-    ensures { result ≡ byteWith b t below v }
+    ensures { result ≡ byte_with b t below v }
 {
     let x = b as u64;
     let m = openjoc_bitio::pow2(t);
@@ -73,7 +73,7 @@ fn byte_with(b: u8, t: usize, below: usize, v: u64) -> u8
 // The t bits of v from bit at on, which lie in one byte.
 fn put_part(out: &mut [u8], at: usize, t: usize, v: u64)
     requires { (at % 8 + t ≤ 8) × (v < 2 ^ t) × (at / 8 < length out.old) }
-    ensures { octetBits out.new ≡ sets (octetBits out.old) at (numberBits t v) }
+    ensures { octet_bits out.new ≡ sets (octet_bits out.old) at (number_bits t v) }
 {
     let i = at / 8;
     let below = 8 - at % 8 - t;
@@ -83,7 +83,7 @@ fn put_part(out: &mut [u8], at: usize, t: usize, v: u64)
 // The width low bits of v, from bit at on, a byte's part at a time.
 fn put_parts(out: &mut [u8], at: usize, width: usize, v: u64)
     requires { (width ≤ 64) × (at + width ≤ length out.old * 8) × (at + width < 2 ^ 64) }
-    ensures { octetBits out.new ≡ sets (octetBits out.old) at (numberBits width v) }
+    ensures { octet_bits out.new ≡ sets (octet_bits out.old) at (number_bits width v) }
 {
     let mut n = width;
     let mut p = at;
@@ -107,7 +107,7 @@ fn byte_at(s: &[u8], i: usize) -> u8
 
 // The octet from bit p on, with zeros past the end.
 fn octet_at(s: &[u8], p: usize) -> u8
-    ensures { result ≡ bitsValue s.now p 8 }
+    ensures { result ≡ bits_value s.now p 8 }
 {
     let i = p / 8;
     openjoc_bitio::octet_in(byte_at(s, i), byte_at(s, i + 1), p % 8)
@@ -116,7 +116,7 @@ fn octet_at(s: &[u8], p: usize) -> u8
 // The t bits of s from bit from on, to out from bit at on, where they lie in one byte.
 fn copy_part(out: &mut [u8], at: usize, s: &[u8], from: usize, t: usize)
     requires { (at % 8 + t ≤ 8) × (at + t ≤ length out.old * 8) × (from + t ≤ length s.now * 8) }
-    ensures { octetBits out.new ≡ sets (octetBits out.old) at (bitRun s.now from t) }
+    ensures { octet_bits out.new ≡ sets (octet_bits out.old) at (bit_run s.now from t) }
 {
     if t == 0 {
         return;
@@ -128,7 +128,7 @@ fn copy_part(out: &mut [u8], at: usize, s: &[u8], from: usize, t: usize)
 // n bytes of s from byte j on, to out from byte i on.
 fn copy_bytes(out: &mut [u8], i: usize, s: &[u8], j: usize, n: usize)
     requires { (i + n ≤ length out.old) × (j + n ≤ length s.now) }
-    ensures { octetBits out.new ≡ sets (octetBits out.old) (i * 8) (bitRun s.now (j * 8) (n * 8)) }
+    ensures { octet_bits out.new ≡ sets (octet_bits out.old) (i * 8) (bit_run s.now (j * 8) (n * 8)) }
 {
     let mut moved: usize = 0;
     while moved < n {
@@ -140,7 +140,7 @@ fn copy_bytes(out: &mut [u8], i: usize, s: &[u8], j: usize, n: usize)
 // n octets of s from phase bits into its byte j on, to out from byte i on.
 fn copy_shifted(out: &mut [u8], i: usize, s: &[u8], j: usize, phase: usize, n: usize)
     requires { (phase < 8) × (i + n ≤ length out.old) × (j + n < length s.now) }
-    ensures { octetBits out.new ≡ sets (octetBits out.old) (i * 8) (bitRun s.now (j * 8 + phase) (n * 8)) }
+    ensures { octet_bits out.new ≡ sets (octet_bits out.old) (i * 8) (bit_run s.now (j * 8 + phase) (n * 8)) }
 {
     let mut k: usize = 0;
     while k < n {
@@ -153,7 +153,7 @@ fn copy_shifted(out: &mut [u8], i: usize, s: &[u8], j: usize, phase: usize, n: u
 // n octets of s from bit from on, to out from byte i on.
 pub fn copy_octets(out: &mut [u8], i: usize, s: &[u8], from: usize, n: usize)
     requires { (i + n ≤ length out.old) × (from + n * 8 ≤ length s.now * 8) }
-    ensures { octetBits out.new ≡ sets (octetBits out.old) (i * 8) (bitRun s.now from (n * 8)) }
+    ensures { octet_bits out.new ≡ sets (octet_bits out.old) (i * 8) (bit_run s.now from (n * 8)) }
 {
     let j = from / 8;
     let phase = from % 8;
@@ -167,7 +167,7 @@ pub fn copy_octets(out: &mut [u8], i: usize, s: &[u8], from: usize, n: usize)
 // The n bits of s from bit from on, to out from bit at on: up to a byte of out, its whole bytes, and the others.
 fn copy_run(out: &mut [u8], at: usize, s: &[u8], from: usize, n: usize)
     requires { (at + n ≤ length out.old * 8) × (from + n ≤ length s.now * 8) × (at + n < 2 ^ 64) × (from + n < 2 ^ 64) }
-    ensures { octetBits out.new ≡ sets (octetBits out.old) at (bitRun s.now from n) }
+    ensures { octet_bits out.new ≡ sets (octet_bits out.old) at (bit_run s.now from n) }
 {
     let head = openjoc_bitio::least(n, (8 - at % 8) % 8);
     copy_part(out, at, s, from, head);

@@ -2,15 +2,15 @@
 use mathlib.Core.Path.{◌≡◌, refl}
 use mathlib.Core.List.{List, [], ◌∷◌, ◌++◌}
 use Prim.Native.Nat.{ℕ}
-use Rattle.openjoc_bitio.specs.Bits.{bit_at, bitsValue}
-use Rattle.openjoc_bitio.specs.Cursor.{bitLength, bitsRemaining, readBits}
+use Rattle.openjoc_bitio.specs.Bits.{bit_at, bits_value}
+use Rattle.openjoc_bitio.specs.Cursor.{bit_length, bits_remaining, read_bits}
 use Rattle.emdf_format.specs.Syntax.{escape}
-use Rattle.emdf_format.specs.Contents.{◌&◌, isPresent, isOne, hasAligned, hasPriority, protectionLength}
-use Rattle.emdf_format.specs.Reader.{and_then, ◌>>=◌, give, ask, choose, position, remaining, fromBits, bits, groupsFrom, variableBits, extendedValue, octets, present, flagged}
-use Rattle.emdf_format.specs.Reading.{reserved, sampleOffset, codecData, configControls, payloadConfig, payloadAfter, payloads, padding, containerEnd, container, consumed, reading}
-use Rattle.emdf_format.specs.Calls.{recordsOf, class_of, classify}
+use Rattle.emdf_format.specs.Contents.{◌&◌, is_present, is_one, has_aligned, has_priority, protection_length}
+use Rattle.emdf_format.specs.Reader.{and_then, ◌>>=◌, give, ask, choose, position, remaining, from_bits, bits, groups_from, variable_bits, extended_value, octets, present, flagged}
+use Rattle.emdf_format.specs.Reading.{reserved, sample_offset_of, codec_data, config_controls, payload_config, payload_after, payloads, padding, container_end, container, consumed, reading}
+use Rattle.emdf_format.specs.Calls.{records_of, class_of, classify}
 use Rattle.emdf_text.specs.Lines.{ascii, digits, decimal, spaced, line}
-use Rattle.emdfcheck.specs.Output.{recordLine, recordLines, parsedLines, classLines, output}
+use Rattle.emdfcheck.specs.Output.{record_line, record_lines, parsed_lines, class_lines, output}
 
 abbrev A : List ℕ
 A = 0x58 ∷ 0x38 ∷ 0x00 ∷ 0x03 ∷ 0x00 ∷ 0x12 ∷ 0x94 ∷ []
@@ -28,5 +28,5 @@ record Printed : Type 0 where
   pub trailed : output (A ++ 0x00 ∷ []) ≡ ascii "trailing 7 8\n"
 
 printed : Printed
-unfolding bit_at bitsValue bitLength bitsRemaining readBits escape ◌&◌ isPresent isOne hasAligned hasPriority protectionLength and_then ◌>>=◌ give ask choose position remaining fromBits bits groupsFrom variableBits extendedValue octets present flagged reserved sampleOffset codecData configControls payloadConfig payloadAfter payloads padding containerEnd container consumed reading recordsOf class_of classify digits decimal spaced line recordLine recordLines parsedLines classLines output
+unfolding bit_at bits_value bit_length bits_remaining read_bits escape ◌&◌ is_present is_one has_aligned has_priority protection_length and_then ◌>>=◌ give ask choose position remaining from_bits bits groups_from variable_bits extended_value octets present flagged reserved sample_offset_of codec_data config_controls payload_config payload_after payloads padding container_end container consumed reading records_of class_of classify digits decimal spaced line record_line record_lines parsed_lines class_lines output
 printed = record { for-A = refl; for-B = refl; excess = refl; two_bytes = refl; two-bytes-missing = refl; one_byte = refl; trailed = refl }

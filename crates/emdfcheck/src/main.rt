@@ -3,13 +3,13 @@
 ghost use Rattle.std.specs.Prelude.{◌+◌, ◌≤◌, ◌≡◌, length, take};
 ghost use Rattle.io.specs.Counts.{IsPrefixLen};
 ghost use Rattle.emdf_format.specs.Reading.{reading, refusal};
-ghost use Rattle.emdf_format.specs.Refusals.{refusalOf, figuresOf};
+ghost use Rattle.emdf_format.specs.Refusals.{refusal_of, figures_of};
 ghost use Rattle.emdf_format.specs.Calls.{classify};
-ghost use Rattle.openjoc_emdf.specs.Answers.{openAnswer};
+ghost use Rattle.openjoc_emdf.specs.Answers.{open_answer};
 ghost use Rattle.openjoc_emdf.specs.declared.OpenAnswer.TheVariants as OpenAnswer;
-ghost use Rattle.emdfcheck.specs.Output.{recordLine, recordLines, classLines, output};
+ghost use Rattle.emdfcheck.specs.Output.{record_line, record_lines, class_lines, output};
 ghost use Rattle.emdf_text.specs.Lines.{Printed};
-ghost use Rattle.emdfcheck.specs.Parts.{isNonEmdf, recordsIn, Printable};
+ghost use Rattle.emdfcheck.specs.Parts.{is_non_emdf, records_in, Printable};
 
 use emdf_format::{EmdfError, PayloadRecord};
 use emdf_payloads::PayloadStep;
@@ -71,7 +71,7 @@ fn put_output(bytes: &[u8], out: &mut [u8]) -> usize
 // What isn't read is no carrier, or one that is malformed.
 fn put_refused(bytes: &[u8], why: EmdfError, out: &mut [u8]) -> usize
     requires { (reading bytes.now ≡ refusal why) × (65536 ≤ length out.old) }
-    ensures { Printed out.old 0 (classLines (classify bytes.now)) out.new result }
+    ensures { Printed out.old 0 (class_lines (classify bytes.now)) out.new result }
 {
     if is_non_emdf(openjoc_emdf::classify_emdf_carrier(bytes)) {
         return emdf_text::put_line(out, 0, b"nonemdf", &[]);
@@ -80,7 +80,7 @@ fn put_refused(bytes: &[u8], why: EmdfError, out: &mut [u8]) -> usize
 }
 
 fn is_non_emdf(class: CarrierClassification) -> bool
-    ensures { result ≡ isNonEmdf class }
+    ensures { result ≡ is_non_emdf class }
 {
     match class {
         CarrierClassification::NonEmdf => true,
@@ -95,8 +95,8 @@ fn is_non_emdf(class: CarrierClassification) -> bool
 
 // A carrier that is read, and what follows it.
 fn put_opened(bytes: &[u8], parsed: ParsedEmdf, first: BitCursor, out: &mut [u8]) -> usize
-    requires { (openAnswer bytes.now (reading bytes.now) ≡ OpenAnswer.Open parsed first) × (65536 ≤ length out.old) }
-    ensures { Printed out.old 0 (classLines (classify bytes.now)) out.new result }
+    requires { (open_answer bytes.now (reading bytes.now) ≡ OpenAnswer.Open parsed first) × (65536 ≤ length out.old) }
+    ensures { Printed out.old 0 (class_lines (classify bytes.now)) out.new result }
 {
     let n = parsed.bytes_consumed.0;
     let length = bytes.len();
@@ -115,7 +115,7 @@ fn put_opened(bytes: &[u8], parsed: ParsedEmdf, first: BitCursor, out: &mut [u8]
 // A line a payload, from the cursor at the first of them.
 fn put_records(bytes: &[u8], first: BitCursor, out: &mut [u8], start: usize) -> usize
     requires { Printable bytes.now first start (length out.old) }
-    ensures { Printed out.old start (recordLines (recordsIn (reading bytes.now))) out.new result }
+    ensures { Printed out.old start (record_lines (records_in (reading bytes.now))) out.new result }
 {
     let mut at = first;
     let mut end = start;
@@ -136,7 +136,7 @@ fn put_records(bytes: &[u8], first: BitCursor, out: &mut [u8], start: usize) -> 
 // A payload's id, and where its parts start and its body ends: six numbers of at most 20 digits.
 fn put_record(out: &mut [u8], at: usize, payload: PayloadRecord) -> usize
     requires { at + 126 ≤ length out.old }
-    ensures printed { Printed out.old at (recordLine payload) out.new result }
+    ensures printed { Printed out.old at (record_line payload) out.new result }
     ensures upper_bound { result ≤ at + 126 }
 {
     let end = emdf_text::put_decimal(out, at, payload.id);
@@ -152,7 +152,7 @@ fn put_record(out: &mut [u8], at: usize, payload: PayloadRecord) -> usize
 }
 
 fn error_number(why: EmdfError) -> u64
-    ensures { result ≡ (figuresOf (refusalOf why)).number }
+    ensures { result ≡ (figures_of (refusal_of why)).number }
 {
     emdf_refusals::figures_of(emdf_refusals::refusal_of(why)).number as u64
 }

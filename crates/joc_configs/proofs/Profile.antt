@@ -8,9 +8,9 @@ use lib.Count.{ones_step}
 use lib.Count.{ones as ones_in}
 use lib.Dec.{eqb, lit<, eqb→eq}
 use lib.ListN.{length, take, drop}
-use Rattle.openjoc_bitio.specs.Choice.{if◌then◌else◌}
-use Rattle.emdf_format.specs.Contents.{◌&◌, isPresent}
-use Rattle.emdf_format.specs.Profile.{meets, differ, Entry, table56, deviations, passes, allPass, meetsProfile, word, ones, status, judge}
+use Rattle.std.specs.Prelude.{if◌then◌else◌}
+use Rattle.emdf_format.specs.Contents.{◌&◌, is_present}
+use Rattle.emdf_format.specs.Profile.{meets, differ, Entry, table56, deviations, passes, all_pass, meets_profile, word, ones, status, judge}
 use Rattle.emdf_format.specs.declared.Optional.{Optional}
 use Rattle.emdf_format.specs.declared.Optional.TheVariants.{Absent, Present}
 use Rattle.emdf_format.specs.declared.EmdfPayloadConfig.{EmdfPayloadConfig}
@@ -24,13 +24,13 @@ use Rattle.emdf_format.specs.declared.JocRole.{JocRole}
 use Rattle.emdf_format.specs.declared.JocRole.TheVariants.{Oamd}
 use Rattle.emdf_format.specs.declared.JocProfileValue.{JocProfileValue}
 use Rattle.emdf_format.specs.declared.JocProfileValue.TheVariants.{Unsigned}
-use Rattle.joc_configs.specs.Settings.{passesAs}
+use Rattle.joc_configs.specs.Settings.{passes_as}
 use Rattle.emdf_format.proofs.Standing.{fails, holds}
 
 -- ---- values that differ
 
-pub absent-differs : (b : Optional) → isPresent b ≡ differ Absent b
-unfolding isPresent differ
+pub absent-differs : (b : Optional) → is_present b ≡ differ Absent b
+unfolding is_present differ
 absent-differs Absent = refl
 absent-differs (Present w) = refl
 
@@ -50,44 +50,44 @@ present-differs v (Present w) = ap not (eqb-sym w v)
 -- ---- settings that pass, one after another
 
 -- a deviation whose allowance was computed
-pub passes-by : {r : Bool} {a b : AllowedDeviation} (w : JocProfileValue) (o : Optional) → r ≡ passesAs w a o → a ≡ b → r ≡ passesAs w b o
+pub passes-by : {r : Bool} {a b : AllowedDeviation} (w : JocProfileValue) (o : Optional) → r ≡ passes_as w a o → a ≡ b → r ≡ passes_as w b o
 passes-by w o h e = rw e at h
 
-pub all_go : (x : Entry) (xs : List Entry) {r : Bool} → passes x ≡ true → r ≡ allPass xs → r ≡ allPass (x ∷ xs)
-unfolding allPass ◌&◌
+pub all_go : (x : Entry) (xs : List Entry) {r : Bool} → passes x ≡ true → r ≡ all_pass xs → r ≡ all_pass (x ∷ xs)
+unfolding all_pass ◌&◌
 all_go x xs h k = k ∙ rw h
 
-pub all-stop : (x : Entry) (xs : List Entry) → passes x ≡ false → false ≡ allPass (x ∷ xs)
-unfolding allPass ◌&◌
+pub all-stop : (x : Entry) (xs : List Entry) → passes x ≡ false → false ≡ all_pass (x ∷ xs)
+unfolding all_pass ◌&◌
 all-stop x xs h = rw h
 
-pub all-last : (x : Entry) {r : Bool} → r ≡ passes x → r ≡ allPass (x ∷ [])
-unfolding allPass ◌&◌
+pub all-last : (x : Entry) {r : Bool} → r ≡ passes x → r ≡ all_pass (x ∷ [])
+unfolding all_pass ◌&◌
 all-last x {r} h = h ∙ go (passes x)
   where
     go : (t : Bool) → t ≡ t & true
     go true = refl
     go false = refl
 
-all_split : (xs ys : List Entry) → allPass (xs ++ ys) ≡ allPass xs & allPass ys
-unfolding allPass ◌&◌
+all_split : (xs ys : List Entry) → all_pass (xs ++ ys) ≡ all_pass xs & all_pass ys
+unfolding all_pass ◌&◌
 all_split [] ys = refl
 all_split (x ∷ xs) ys = go (passes x) (all_split xs ys)
   where
-    go : (t : Bool) → allPass (xs ++ ys) ≡ allPass xs & allPass ys → t & allPass (xs ++ ys) ≡ (t & allPass xs) & allPass ys
+    go : (t : Bool) → all_pass (xs ++ ys) ≡ all_pass xs & all_pass ys → t & all_pass (xs ++ ys) ≡ (t & all_pass xs) & all_pass ys
     go true h = h
     go false h = refl
 
 -- the first five, which are the same of both payloads, and the others
-config-split : (role : JocRole) (t : EmdfPayloadConfig) → allPass (table56 role t) ≡ allPass (take 5 (table56 Oamd t)) & allPass (drop 5 (table56 role t))
+config-split : (role : JocRole) (t : EmdfPayloadConfig) → all_pass (table56 role t) ≡ all_pass (take 5 (table56 Oamd t)) & all_pass (drop 5 (table56 role t))
 unfolding table56
 config-split role t = all_split (take 5 (table56 role t)) (drop 5 (table56 role t))
 
-pub config-stop : (role : JocRole) (t : EmdfPayloadConfig) → allPass (take 5 (table56 Oamd t)) ≡ false → false ≡ allPass (table56 role t)
+pub config-stop : (role : JocRole) (t : EmdfPayloadConfig) → all_pass (take 5 (table56 Oamd t)) ≡ false → false ≡ all_pass (table56 role t)
 unfolding ◌&◌
 config-stop role t h = sym (config-split role t ∙ rw h)
 
-pub config-go : (role : JocRole) (t : EmdfPayloadConfig) {r : Bool} → allPass (take 5 (table56 Oamd t)) ≡ true → r ≡ allPass (drop 5 (table56 role t)) → r ≡ allPass (table56 role t)
+pub config-go : (role : JocRole) (t : EmdfPayloadConfig) {r : Bool} → all_pass (take 5 (table56 Oamd t)) ≡ true → r ≡ all_pass (drop 5 (table56 role t)) → r ≡ all_pass (table56 role t)
 unfolding ◌&◌
 config-go role t h k = k ∙ sym (config-split role t ∙ rw h)
 
@@ -112,7 +112,7 @@ ones-word (b ∷ bs) = mark-first (if b then 1 else 0) (word bs) (ones bs) (bit-
 
 -- ---- the verdict on two payloads
 
-module _ (profile : JocValidationProfile) (most : ℕ) (o j : PlacedConfig) {m : ℕ} {t : Bool} (is : m ≡ word (deviations o.config j.config)) (met : t ≡ meetsProfile profile o.config j.config) where
+module _ (profile : JocValidationProfile) (most : ℕ) (o j : PlacedConfig) {m : ℕ} {t : Bool} (is : m ≡ word (deviations o.config j.config)) (met : t ≡ meets_profile profile o.config j.config) where
   pub judge-refused : not t ≡ true → Refused (Configuration m (ones_in m)) ≡ judge profile most o j
   unfolding judge
   judge-refused h = rw (fails h met, is, ones-word)

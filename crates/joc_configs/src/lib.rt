@@ -1,11 +1,11 @@
 // The settings of an OAMD and a JOC payload, judged by table 56 as the original has it: marks, and whether a profile lets
 // them pass.
 ghost use Rattle.std.specs.Prelude.{◌≡◌, not, List, ◌+◌, ◌≤◌, ◌<◌, ◌^◌, take, drop};
-ghost use Rattle.emdf_format.specs.Profile.{meets, differ, onOamd, table56, marks, deviations, word, ones, allPass, meetsProfile, status, judge};
+ghost use Rattle.emdf_format.specs.Profile.{meets, differ, on_oamd, table56, marks, deviations, word, ones, all_pass, meets_profile, status, judge};
 ghost use Rattle.emdf_format.specs.declared.JocRole.TheVariants.{Oamd};
 ghost use Rattle.emdf_format.specs.declared.JocProfileValue.TheVariants.{Unsigned};
 ghost use Rattle.emdf_format.specs.declared.JocValidationProfile.TheVariants.{ObservedVendorCompat};
-ghost use Rattle.joc_configs.specs.Settings.{bit_of, passesAs};
+ghost use Rattle.joc_configs.specs.Settings.{bit_of, passes_as};
 
 use emdf_format::{
     AllowedDeviation, EmdfPayloadConfig, JocProfileAnswer, JocProfileError, JocProfileValue,
@@ -58,7 +58,7 @@ fn meets_profile(
     count: u32,
 ) -> bool
     requires { count ≡ ones (deviations oamd joc) }
-    ensures { result ≡ meetsProfile profile oamd joc }
+    ensures { result ≡ meets_profile profile oamd joc }
 {
     match profile {
         JocValidationProfile::EtsiStrict => count == 0,
@@ -67,7 +67,7 @@ fn meets_profile(
 }
 
 fn meets_compat(oamd: EmdfPayloadConfig, joc: EmdfPayloadConfig) -> bool
-    ensures { result ≡ meetsProfile ObservedVendorCompat oamd joc }
+    ensures { result ≡ meets_profile ObservedVendorCompat oamd joc }
 {
     if !config_passes(JocRole::Oamd, oamd) {
         return false;
@@ -82,7 +82,7 @@ fn meets_compat(oamd: EmdfPayloadConfig, joc: EmdfPayloadConfig) -> bool
 
 // The ten settings of a payload, by the values that compat lets pass.
 fn config_passes(role: JocRole, t: EmdfPayloadConfig) -> bool
-    ensures { result ≡ allPass (table56 role t) }
+    ensures { result ≡ all_pass (table56 role t) }
 {
     if !head_passes(t) {
         return false;
@@ -91,7 +91,7 @@ fn config_passes(role: JocRole, t: EmdfPayloadConfig) -> bool
 }
 
 fn head_passes(t: EmdfPayloadConfig) -> bool
-    ensures { result ≡ allPass (take 5 (table56 Oamd t)) }
+    ensures { result ≡ all_pass (take 5 (table56 Oamd t)) }
 {
     let offset = t.sample_offset;
     let duration = t.duration;
@@ -119,7 +119,7 @@ fn head_passes(t: EmdfPayloadConfig) -> bool
 }
 
 fn controls_pass(role: JocRole, t: EmdfPayloadConfig) -> bool
-    ensures { result ≡ allPass (drop 5 (table56 role t)) }
+    ensures { result ≡ all_pass (drop 5 (table56 role t)) }
 {
     let aligned = t.payload_frame_aligned;
     let create = t.create_duplicate;
@@ -144,7 +144,7 @@ fn controls_pass(role: JocRole, t: EmdfPayloadConfig) -> bool
 }
 
 fn on_oamd(role: JocRole, allowed: AllowedDeviation) -> AllowedDeviation
-    ensures { result ≡ onOamd role allowed }
+    ensures { result ≡ on_oamd role allowed }
 {
     match role {
         JocRole::Oamd => allowed,
@@ -154,7 +154,7 @@ fn on_oamd(role: JocRole, allowed: AllowedDeviation) -> AllowedDeviation
 
 // What is wanted, or the one other value that is let pass.
 fn passes(wanted: JocProfileValue, allowed: AllowedDeviation, found: Optional) -> bool
-    ensures { result ≡ passesAs wanted allowed found }
+    ensures { result ≡ passes_as wanted allowed found }
 {
     if meets_wanted(wanted, found) {
         return true;

@@ -9,11 +9,11 @@ use lib.Dec.{eqb}
 use types.Run.{OneOf, miss}
 use denote.Enum.Declared.{tag_of}
 use borrow.Author.Tests.{ne_eqb}
-use Rattle.openjoc_bitio.specs.Choice.{if◌then◌else◌}
+use Rattle.std.specs.Prelude.{if◌then◌else◌}
 use Rattle.openjoc_bitio.specs.declared.BitCursor.{BitCursor}
-use Rattle.emdf_format.specs.Reading.{Found, Container, accepted, reading, contentsOf}
-use Rattle.emdf_format.specs.Groups.{largestGroups}
-use Rattle.emdf_format.specs.Profile.{countId, firstId, onlyId, judge, judged, verdictOn, verdict}
+use Rattle.emdf_format.specs.Reading.{Found, Container, accepted, reading, contents_of}
+use Rattle.emdf_format.specs.Groups.{largest_groups_of}
+use Rattle.emdf_format.specs.Profile.{count_id, first_id, only_id, judge, judged, verdict_on, verdict}
 use Rattle.emdf_format.specs.declared.JocValidationProfile.{JocValidationProfile}
 use Rattle.emdf_format.specs.declared.JocProfileError.TheVariants.{Emdf, PayloadCount}
 use Rattle.emdf_format.specs.declared.JocProfileAnswer.{JocProfileAnswer}
@@ -22,15 +22,15 @@ use Rattle.emdf_format.specs.declared.EmdfError.{EmdfError}
 use Rattle.emdf_format.specs.declared.PayloadRecord.{PayloadRecord}
 use Rattle.emdf_format.specs.declared.PlacedConfig.{PlacedConfig}
 use Rattle.emdf_payloads.specs.declared.PayloadStep.TheVariants as PayloadStep
-use Rattle.emdf_container.specs.Container.{containerOf}
+use Rattle.emdf_container.specs.Container.{container_of}
 use Rattle.openjoc_emdf.specs.declared.ParsedEmdf.{ParsedEmdf}
-use Rattle.openjoc_emdf.specs.Answers.{parsedEmdf, openAnswer}
+use Rattle.openjoc_emdf.specs.Answers.{parsed_emdf, open_answer}
 use Rattle.openjoc_emdf.specs.declared.OpenAnswer.{OpenAnswer}
 use Rattle.openjoc_emdf.specs.declared.OpenAnswer.TheVariants as OpenAnswer
 use Rattle.openjoc_emdf.proofs.Opening.{unopened}
-use Rattle.emdf_payloads.specs.Payloads.{Listed, stepAt}
+use Rattle.emdf_payloads.specs.Payloads.{Listed, step_at}
 use Rattle.emdf_payloads.proofs.Walk.{First, step-found, step-ended}
-use Rattle.joc_profile.specs.Pair.{count_of, seenMore, seenNext, seenFrom, pair_of, placed_of, judgedPair, openError}
+use Rattle.joc_profile.specs.Pair.{count_of, seen_more, seen_next, seen_from, pair_of, placed_of, judged_pair, open_error}
 use Rattle.joc_profile.specs.declared.PairAnswer.{PairAnswer}
 use Rattle.joc_profile.specs.declared.PairAnswer.TheVariants.{Pair}
 use Rattle.joc_profile.specs.declared.PairAnswer.TheVariants as PairAnswer
@@ -40,17 +40,17 @@ use Rattle.joc_profile.specs.contracts.Seen as seen-type
 
 -- ---- a turn of the loop
 
-count-more : (b : Seen) (k : ℕ) (x : PlacedConfig) → count_of b ≤ k → count_of (seenMore b x) ≤ k + 1
-unfolding seenMore
+count-more : (b : Seen) (k : ℕ) (x : PlacedConfig) → count_of b ≤ k → count_of (seen_more b x) ≤ k + 1
+unfolding seen_more
 count-more Nothing k x h = omega arith
 count-more (One y) k x h = omega arith
 count-more (Several n) k x h = omega arith
 
-pub count_next : (b : Seen) (id k : ℕ) (r : PayloadRecord) → count_of b ≤ k → count_of (seenNext b id k r) ≤ k + 1
-unfolding seenNext
+pub count_next : (b : Seen) (id k : ℕ) (r : PayloadRecord) → count_of b ≤ k → count_of (seen_next b id k r) ≤ k + 1
+unfolding seen_next
 count_next b id k r h = go b (eqb r.id id) h
   where
-    go : (b : Seen) (t : Bool) → count_of b ≤ k → count_of (if t then seenMore b (record { place = k; config = r.config }) else b) ≤ k + 1
+    go : (b : Seen) (t : Bool) → count_of b ≤ k → count_of (if t then seen_more b (record { place = k; config = r.config }) else b) ≤ k + 1
     go b true h = count-more b k _ h
     go b false h = omega arith
 
@@ -59,15 +59,15 @@ none_seen = omega arith
 
 -- ---- all of them
 
-seen-several : (n id k : ℕ) (xs : List Found) → seenFrom (Several n) id k xs ≡ Several (n + countId id xs)
-unfolding seenFrom countId seenNext seenMore
+seen-several : (n id k : ℕ) (xs : List Found) → seen_from (Several n) id k xs ≡ Several (n + count_id id xs)
+unfolding seen_from count_id seen_next seen_more
 seen-several n id k [] = let e : n ≡ n + 0 = omega arith in ap Several e
 seen-several n id k (x ∷ xs) = go (eqb x.record_of.id id)
-    (seen-several (n + 1) id (k + 1) xs ∙ ap Several (let e : n + 1 + countId id xs ≡ n + (1 + countId id xs) = omega arith in e))
-    (seen-several n id (k + 1) xs ∙ ap Several (let e : n + countId id xs ≡ n + (0 + countId id xs) = omega arith in e))
+    (seen-several (n + 1) id (k + 1) xs ∙ ap Several (let e : n + 1 + count_id id xs ≡ n + (1 + count_id id xs) = omega arith in e))
+    (seen-several n id (k + 1) xs ∙ ap Several (let e : n + count_id id xs ≡ n + (0 + count_id id xs) = omega arith in e))
   where
-    go : (t : Bool) → seenFrom (Several (n + 1)) id (k + 1) xs ≡ Several (n + (1 + countId id xs)) → seenFrom (Several n) id (k + 1) xs ≡ Several (n + (0 + countId id xs))
-        → seenFrom (if t then Several (n + 1) else Several n) id (k + 1) xs ≡ Several (n + ((if t then 1 else 0) + countId id xs))
+    go : (t : Bool) → seen_from (Several (n + 1)) id (k + 1) xs ≡ Several (n + (1 + count_id id xs)) → seen_from (Several n) id (k + 1) xs ≡ Several (n + (0 + count_id id xs))
+        → seen_from (if t then Several (n + 1) else Several n) id (k + 1) xs ≡ Several (n + ((if t then 1 else 0) + count_id id xs))
     go true a b = a
     go false a b = b
 
@@ -76,15 +76,15 @@ unfoldable one_of : PlacedConfig → ℕ → Seen
 one_of p zero = One p
 one_of p (suc n) = Several (2 + n)
 
-seen_one : (p : PlacedConfig) (id k : ℕ) (xs : List Found) → seenFrom (One p) id k xs ≡ one_of p (countId id xs)
-unfolding seenFrom countId seenNext seenMore one_of
+seen_one : (p : PlacedConfig) (id k : ℕ) (xs : List Found) → seen_from (One p) id k xs ≡ one_of p (count_id id xs)
+unfolding seen_from count_id seen_next seen_more one_of
 seen_one p id k [] = refl
 seen_one p id k (x ∷ xs) = go (eqb x.record_of.id id) (seen-several 2 id (k + 1) xs) (seen_one p id (k + 1) xs)
   where
-    go : (t : Bool) → seenFrom (Several 2) id (k + 1) xs ≡ Several (2 + countId id xs) → seenFrom (One p) id (k + 1) xs ≡ one_of p (countId id xs)
-        → seenFrom (if t then Several 2 else One p) id (k + 1) xs ≡ one_of p ((if t then 1 else 0) + countId id xs)
-    go true a b = let e : suc (countId id xs) ≡ 1 + countId id xs = omega arith in a ∙ ap (one_of p) e
-    go false a b = let e : countId id xs ≡ 0 + countId id xs = omega arith in b ∙ ap (one_of p) e
+    go : (t : Bool) → seen_from (Several 2) id (k + 1) xs ≡ Several (2 + count_id id xs) → seen_from (One p) id (k + 1) xs ≡ one_of p (count_id id xs)
+        → seen_from (if t then Several 2 else One p) id (k + 1) xs ≡ one_of p ((if t then 1 else 0) + count_id id xs)
+    go true a b = let e : suc (count_id id xs) ≡ 1 + count_id id xs = omega arith in a ∙ ap (one_of p) e
+    go false a b = let e : count_id id xs ≡ 0 + count_id id xs = omega arith in b ∙ ap (one_of p) e
 
 pub record Agrees (seen : Seen) (n : ℕ) (first : Option PlacedConfig) : Type 0 where
   pub place : placed_of seen ≡ (if eqb n 1 then first else none)
@@ -95,21 +95,21 @@ unfolding one_of placed_of
 one-agrees p zero = record { place = refl; count = refl }
 one-agrees p (suc n) = record { place = rw (ne_eqb (1 + suc n) 1 (λ e. omega (arith, e))); count = omega arith }
 
-pub seen-agrees : (id k : ℕ) (xs : List Found) → Agrees (seenFrom Nothing id k xs) (countId id xs) (firstId id k xs)
-unfolding seenFrom countId firstId seenNext seenMore placed_of
+pub seen-agrees : (id k : ℕ) (xs : List Found) → Agrees (seen_from Nothing id k xs) (count_id id xs) (first_id id k xs)
+unfolding seen_from count_id first_id seen_next seen_more placed_of
 seen-agrees id k [] = record { place = refl; count = refl }
 seen-agrees id k (x ∷ xs) = go (eqb x.record_of.id id) (seen-agrees id (k + 1) xs)
   where
     here : PlacedConfig
     here = record { place = k; config = x.record_of.config }
 
-    go : (t : Bool) → Agrees (seenFrom Nothing id (k + 1) xs) (countId id xs) (firstId id (k + 1) xs)
-        → Agrees (seenFrom (if t then One (record { place = k; config = x.record_of.config }) else Nothing) id (k + 1) xs) ((if t then 1 else 0) + countId id xs)
-        (if t then some (record { place = k; config = x.record_of.config }) else firstId id (suc k) xs)
-    go true h = rw (seen_one _ id (k + 1) xs) (one-agrees _ (countId id xs))
+    go : (t : Bool) → Agrees (seen_from Nothing id (k + 1) xs) (count_id id xs) (first_id id (k + 1) xs)
+        → Agrees (seen_from (if t then One (record { place = k; config = x.record_of.config }) else Nothing) id (k + 1) xs) ((if t then 1 else 0) + count_id id xs)
+        (if t then some (record { place = k; config = x.record_of.config }) else first_id id (suc k) xs)
+    go true h = rw (seen_one _ id (k + 1) xs) (one-agrees _ (count_id id xs))
     go false h =
         let e : suc k ≡ k + 1 = omega arith in
-        let z : 0 + countId id xs ≡ countId id xs = omega arith in
+        let z : 0 + count_id id xs ≡ count_id id xs = omega arith in
         rw (e, z) h
 
 -- ---- the verdict on what is seen
@@ -123,8 +123,8 @@ module _ (profile : JocValidationProfile) (most : ℕ) (o j : Seen) where
   counts = JocProfileAnswer.Refused (PayloadCount (count_of o) (count_of j))
 
   -- 14: one of them is missing or repeated
-  pub oamd-missing : {m n : ℕ} → NotOne o → m ≡ count_of o → n ≡ count_of j → JocProfileAnswer.Refused (PayloadCount m n) ≡ judgedPair profile most o j
-  unfolding judgedPair judged placed_of
+  pub oamd-missing : {m n : ℕ} → NotOne o → m ≡ count_of o → n ≡ count_of j → JocProfileAnswer.Refused (PayloadCount m n) ≡ judged_pair profile most o j
+  unfolding judged_pair judged placed_of
   oamd-missing f a b = rw (a, b) (go o f)
     where
       go : (x : Seen) → NotOne x → counts ≡ judged profile most (placed_of x) (placed_of j) counts
@@ -132,8 +132,8 @@ module _ (profile : JocValidationProfile) (most : ℕ) (o j : Seen) where
       go (One p) f = absurd (miss (0 ∷ 2 ∷ []) 1 tt f)
       go (Several k) f = refl
 
-  pub joc-missing : {m n : ℕ} {p : PlacedConfig} → o ≡ One p → NotOne j → m ≡ count_of o → n ≡ count_of j → JocProfileAnswer.Refused (PayloadCount m n) ≡ judgedPair profile most o j
-  unfolding judgedPair judged placed_of
+  pub joc-missing : {m n : ℕ} {p : PlacedConfig} → o ≡ One p → NotOne j → m ≡ count_of o → n ≡ count_of j → JocProfileAnswer.Refused (PayloadCount m n) ≡ judged_pair profile most o j
+  unfolding judged_pair judged placed_of
   joc-missing {p = p} e f a b = rw (a, b) (go j f ∙ ap (λ (x : Seen). judged profile most (placed_of x) (placed_of j) counts) (sym e))
     where
       go : (x : Seen) → NotOne x → counts ≡ judged profile most (some p) (placed_of x) counts
@@ -141,15 +141,15 @@ module _ (profile : JocValidationProfile) (most : ℕ) (o j : Seen) where
       go (One q) f = absurd (miss (0 ∷ 2 ∷ []) 1 tt f)
       go (Several k) f = refl
 
-  pub both-there : {r : JocProfileAnswer} {p q : PlacedConfig} → o ≡ One p → j ≡ One q → r ≡ judge profile most p q → r ≡ judgedPair profile most o j
-  unfolding judgedPair judged placed_of
+  pub both-there : {r : JocProfileAnswer} {p q : PlacedConfig} → o ≡ One p → j ≡ One q → r ≡ judge profile most p q → r ≡ judged_pair profile most o j
+  unfolding judged_pair judged placed_of
   both-there e f h = rw (e, f) h
 
 -- ---- the verdict on a carrier
 
 -- a carrier that is read has its contents' groups
-pub parsed-groups : {n : ℕ} (c : Container) {p : ParsedEmdf} → parsedEmdf n c ≡ p → p.container.largest_groups ≡ largestGroups (contentsOf c)
-unfolding containerOf
+pub parsed-groups : {n : ℕ} (c : Container) {p : ParsedEmdf} → parsed_emdf n c ≡ p → p.container.largest_groups ≡ largest_groups_of (contents_of c)
+unfolding container_of
 parsed-groups c h = rw (← h)
 
 -- the payloads of a carrier that is read are never refused
@@ -158,17 +158,17 @@ unfolding pair_of
 never-refused xs is h = let e = sym is ∙ h in let w : ◌≡◌ {A = ℕ} 0 1 = cc in omega arith
 
 module _ (profile : JocValidationProfile) (s : List ℕ) where
-  pub refused-verdict : {a : OpenAnswer} {why x : EmdfError} → a ≡ openAnswer s (reading s) → a ≡ OpenAnswer.Refused why → x ≡ openError a x → JocProfileAnswer.Refused (Emdf x) ≡ verdict profile s
-  unfolding verdict verdictOn
+  pub refused-verdict : {a : OpenAnswer} {why x : EmdfError} → a ≡ open_answer s (reading s) → a ≡ OpenAnswer.Refused why → x ≡ open_error a x → JocProfileAnswer.Refused (Emdf x) ≡ verdict profile s
+  unfolding verdict verdict_on
   refused-verdict {a} {why} {x} i h k = let z : x ≡ why = rw h at k in rw (unopened s (sym i ∙ h), z)
 
   module _ {n : ℕ} {c : Container} (read : reading s ≡ accepted n c) {a : PairAnswer} (is : a ≡ pair_of c.found) where
-    pub found-verdict : {most : ℕ} {o j : Seen} {r : JocProfileAnswer} → most ≡ largestGroups (contentsOf c) → a ≡ Pair o j → r ≡ judgedPair profile most o j → r ≡ verdict profile s
-    unfolding verdict verdictOn judgedPair onlyId pair_of
+    pub found-verdict : {most : ℕ} {o j : Seen} {r : JocProfileAnswer} → most ≡ largest_groups_of (contents_of c) → a ≡ Pair o j → r ≡ judged_pair profile most o j → r ≡ verdict profile s
+    unfolding verdict verdict_on judged_pair only_id pair_of
     found-verdict {o = o} {j = j} m h k =
         let e = sym is ∙ h in
-        let f : seenFrom Nothing 11 0 c.found ≡ o = cc in
-        let g : seenFrom Nothing 14 0 c.found ≡ j = cc in
+        let f : seen_from Nothing 11 0 c.found ≡ o = cc in
+        let g : seen_from Nothing 14 0 c.found ≡ j = cc in
         let u = seen-agrees 11 0 c.found in
         let v = seen-agrees 14 0 c.found in
         rw read (rw (m, ← f, ← g, u.place, u.count, v.place, v.count) at k)
@@ -178,25 +178,25 @@ module _ (profile : JocValidationProfile) (s : List ℕ) where
 pub record Same (s : List ℕ) (at : BitCursor) (oamd joc : Seen) (place : ℕ) (xs : List Found) : Type 0 where
   pub left : List Found
   pub listed : Listed s at left
-  pub first : seenFrom oamd 11 place left ≡ seenFrom Nothing 11 0 xs
-  pub second : seenFrom joc 14 place left ≡ seenFrom Nothing 14 0 xs
+  pub first : seen_from oamd 11 place left ≡ seen_from Nothing 11 0 xs
+  pub second : seen_from joc 14 place left ≡ seen_from Nothing 14 0 xs
 
 pub same_start : (s : List ℕ) (at : BitCursor) (xs : List Found) → Listed s at xs → Same s at Nothing Nothing 0 xs
 same_start s at xs l = record { left = xs; listed = l; first = refl; second = refl }
 
 seen_first : (b : Seen) (id k : ℕ) {s : List ℕ} {at next : BitCursor} {r : PayloadRecord} {ys : List Found} (f : First s at next r ys)
-    → seenFrom (seenNext b id k r) id (k + 1) f.others ≡ seenFrom b id k ys
-unfolding seenFrom
+    → seen_from (seen_next b id k r) id (k + 1) f.others ≡ seen_from b id k ys
+unfolding seen_from
 seen_first b id k f = rw (f.is, ← f.record_is)
 
 pub same_next : {s : List ℕ} {at next : BitCursor} {o j o' j' : Seen} {place : ℕ} {xs : List Found} {r : PayloadRecord} → Same s at o j place xs
-    → stepAt s at ≡ PayloadStep.Payload r next → o' ≡ seenNext o 11 place r → j' ≡ seenNext j 14 place r → Same s next o' j' (place + 1) xs
+    → step_at s at ≡ PayloadStep.Payload r next → o' ≡ seen_next o 11 place r → j' ≡ seen_next j 14 place r → Same s next o' j' (place + 1) xs
 same_next {s} {at} {o = o} {j = j} {place = place} m h a b =
     let f = step-found s at m.left m.listed h in
     record { left = f.others; listed = f.listed; first = rw a (seen_first o 11 place f) ∙ m.first; second = rw b (seen_first j 14 place f) ∙ m.second }
 
-pub same_end : {s : List ℕ} {at next : BitCursor} {o j : Seen} {place : ℕ} {xs : List Found} → Same s at o j place xs → stepAt s at ≡ PayloadStep.End next → Pair o j ≡ pair_of xs
-unfolding pair_of seenFrom
+pub same_end : {s : List ℕ} {at next : BitCursor} {o j : Seen} {place : ℕ} {xs : List Found} → Same s at o j place xs → step_at s at ≡ PayloadStep.End next → Pair o j ≡ pair_of xs
+unfolding pair_of seen_from
 same_end {s} {at} m h =
     let e = step-ended s at m.left m.listed h in
     let a = rw e at m.first in

@@ -1,7 +1,6 @@
 -- The two payloads of table 55 as they are met one after another. Assumes nothing.
-use Rattle.std.specs.Prelude.{List, [], ◌∷◌, ℕ, ◌+◌, eqb}
+use Rattle.std.specs.Prelude.{List, [], ◌∷◌, ℕ, ◌+◌, eqb, if◌then◌else◌}
 use Rattle.std.proofs.Math.Option.{Option, none, some}
-use Rattle.openjoc_bitio.specs.Choice.{if◌then◌else◌}
 use Rattle.emdf_format.specs.Reading.{Found}
 use Rattle.emdf_format.specs.Profile.{judged}
 use Rattle.emdf_format.specs.declared.EmdfError.{EmdfError}
@@ -26,21 +25,21 @@ count_of (One x) = 1
 count_of (Several n) = n
 
 -- one more with the id, at a place
-unfoldable pub seenMore : Seen → PlacedConfig → Seen
-seenMore Nothing x = One x
-seenMore (One y) x = Several 2
-seenMore (Several n) x = Several (n + 1)
+unfoldable pub seen_more : Seen → PlacedConfig → Seen
+seen_more Nothing x = One x
+seen_more (One y) x = Several 2
+seen_more (Several n) x = Several (n + 1)
 
-unfoldable pub seenNext : Seen → ℕ → ℕ → PayloadRecord → Seen
-seenNext before id place r = if eqb r.id id then seenMore before (record { place = place; config = r.config }) else before
+unfoldable pub seen_next : Seen → ℕ → ℕ → PayloadRecord → Seen
+seen_next before id place r = if eqb r.id id then seen_more before (record { place = place; config = r.config }) else before
 
 -- all of them, the list's first at place k
-unfoldable pub seenFrom : Seen → ℕ → ℕ → List Found → Seen
-seenFrom before id k [] = before
-seenFrom before id k (x ∷ xs) = seenFrom (seenNext before id k x.record_of) id (k + 1) xs
+unfoldable pub seen_from : Seen → ℕ → ℕ → List Found → Seen
+seen_from before id k [] = before
+seen_from before id k (x ∷ xs) = seen_from (seen_next before id k x.record_of) id (k + 1) xs
 
 unfoldable pub pair_of : List Found → PairAnswer
-pair_of xs = Pair (seenFrom Nothing 11 0 xs) (seenFrom Nothing 14 0 xs)
+pair_of xs = Pair (seen_from Nothing 11 0 xs) (seen_from Nothing 14 0 xs)
 
 -- ---- the verdict on them
 
@@ -49,15 +48,15 @@ placed_of Nothing = none
 placed_of (One x) = some x
 placed_of (Several n) = none
 
-unfoldable pub judgedPair : JocValidationProfile → ℕ → Seen → Seen → JocProfileAnswer
-judgedPair profile most o j = judged profile most (placed_of o) (placed_of j) (JocProfileAnswer.Refused (PayloadCount (count_of o) (count_of j)))
+unfoldable pub judged_pair : JocValidationProfile → ℕ → Seen → Seen → JocProfileAnswer
+judged_pair profile most o j = judged profile most (placed_of o) (placed_of j) (JocProfileAnswer.Refused (PayloadCount (count_of o) (count_of j)))
 
 -- ---- r is why an answer is refused; of an accepted one nothing is said
 
-abbrev pub openError : OpenAnswer → EmdfError → EmdfError
-openError (OpenAnswer.Open p c) r = r
-openError (OpenAnswer.Refused why) r = why
+abbrev pub open_error : OpenAnswer → EmdfError → EmdfError
+open_error (OpenAnswer.Open p c) r = r
+open_error (OpenAnswer.Refused why) r = why
 
-abbrev pub pairError : PairAnswer → EmdfError → EmdfError
-pairError (Pair o j) r = r
-pairError (Refused why) r = why
+abbrev pub pair_error : PairAnswer → EmdfError → EmdfError
+pair_error (Pair o j) r = r
+pair_error (Refused why) r = why

@@ -6,9 +6,9 @@ ghost use Rattle.emdf_format.specs.Profile.{judge, verdict};
 ghost use Rattle.emdf_format.specs.declared.PayloadRecord.{PayloadRecord};
 ghost use Rattle.emdf_format.specs.declared.JocValidationProfile.TheVariants.{EtsiStrict};
 ghost use Rattle.emdf_payloads.specs.declared.PayloadStep.TheVariants.{Payload};
-ghost use Rattle.emdf_payloads.specs.Payloads.{Listed, stepAt};
+ghost use Rattle.emdf_payloads.specs.Payloads.{Listed, step_at};
 ghost use Rattle.joc_profile.specs.declared.Seen.TheVariants.{One};
-ghost use Rattle.joc_profile.specs.Pair.{count_of, seenNext, pair_of, judgedPair, openError, pairError};
+ghost use Rattle.joc_profile.specs.Pair.{count_of, seen_next, pair_of, judged_pair, open_error, pair_error};
 
 use emdf_format::{
     EmdfError, JOC_PAYLOAD_ID, JocProfileAnswer, JocProfileError, JocValidationProfile,
@@ -57,7 +57,7 @@ pub fn validate_joc_profile(bytes: &[u8]) -> JocProfileAnswer
 }
 
 fn open_error(a: OpenAnswer) -> EmdfError
-    ensures { result ≡ openError a result }
+    ensures { result ≡ open_error a result }
 {
     match a {
         OpenAnswer::Open(_, _) => EmdfError::ValueOverflow,
@@ -66,7 +66,7 @@ fn open_error(a: OpenAnswer) -> EmdfError
 }
 
 fn pair_error(a: PairAnswer) -> EmdfError
-    ensures { result ≡ pairError a result }
+    ensures { result ≡ pair_error a result }
 {
     match a {
         PairAnswer::Pair(_, _) => EmdfError::ValueOverflow,
@@ -104,7 +104,7 @@ fn find_pair(s: &[u8], first: BitCursor) -> PairAnswer
 // One more payload, at a place. Only the first with the wanted id is read once more, for its settings.
 fn seen_next(before: Seen, wanted: u64, place: usize, id: u64, s: &[u8], at: BitCursor) -> Seen
     requires { (count_of before ≤ place) × (place + 1 < 2 ^ 64) }
-    ensures { (p : PayloadRecord) (next : BitCursor) → stepAt s.now at ≡ Payload p next → p.id ≡ id → result ≡ seenNext before wanted place p }
+    ensures { (p : PayloadRecord) (next : BitCursor) → step_at s.now at ≡ Payload p next → p.id ≡ id → result ≡ seen_next before wanted place p }
 {
     if id != wanted {
         return before;
@@ -118,7 +118,7 @@ fn seen_next(before: Seen, wanted: u64, place: usize, id: u64, s: &[u8], at: Bit
 
 // The payload at the cursor, with its settings. The caller went past it already, so it is there.
 fn first_seen(place: usize, s: &[u8], at: BitCursor) -> Seen
-    ensures { (p : PayloadRecord) (next : BitCursor) → stepAt s.now at ≡ Payload p next → result ≡ One (record { place = place; config = p.config }) }
+    ensures { (p : PayloadRecord) (next : BitCursor) → step_at s.now at ≡ Payload p next → result ≡ One (record { place = place; config = p.config }) }
 {
     match emdf_payloads::next_payload(s, at) {
         PayloadStep::Payload(record, _) => {
@@ -142,7 +142,7 @@ fn seen_count(s: Seen) -> usize
 
 // One payload of each id, or how many there are.
 fn judge_pair(profile: JocValidationProfile, most: usize, oamd: Seen, joc: Seen) -> JocProfileAnswer
-    ensures { result ≡ judgedPair profile most oamd joc }
+    ensures { result ≡ judged_pair profile most oamd joc }
 {
     let counts = JocProfileAnswer::Refused(JocProfileError::PayloadCount {
         oamd: seen_count(oamd),

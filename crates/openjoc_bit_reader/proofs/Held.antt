@@ -29,7 +29,7 @@ use denote.Steps.{opens, closes, owned, peeks}
 use denote.Struct.Laws as LL
 use denote.Struct.Rest.{all_own, own_open, own_put}
 use denote.Struct.Steps.{spelt}
-use Rattle.openjoc_bit_reader.specs.Reader.{readerAt}
+use Rattle.openjoc_bit_reader.specs.Reader.{reader_at}
 use Rattle.openjoc_bitio.specs.declared.BitCursor.{BitCursor}
 use Rattle.openjoc_bit_reader.specs.declared.BitReader.{BitReader}
 use Rattle.openjoc_bitio.specs.contracts.BitCursor as Q
@@ -60,8 +60,8 @@ abbrev pub CellAt : ℕ → ℕ → BitReader → Fml
 CellAt b o h = fat full_share (T'.mir erased) b o (mach h)
 
 module _ (κ : Lft) (h : BitReader) where
-  pub fits : (c : BitCursor) → Is (row κ) h (mach h ∷ []) → Is Q.the_row c (Q'.lowered c ∷ []) → Is (row κ) (readerAt h c) (mach (readerAt h c) ∷ [])
-  fits c here is = LL.owes (T.the_type (α κ)) (T'.the_laws (α κ)) (readerAt h c) ((LL.owed (T.the_type (α κ)) (T'.the_laws (α κ)) h _ here).0, (is, tt))
+  pub fits : (c : BitCursor) → Is (row κ) h (mach h ∷ []) → Is Q.the_row c (Q'.lowered c ∷ []) → Is (row κ) (reader_at h c) (mach (reader_at h c) ∷ [])
+  fits c here is = LL.owes (T.the_type (α κ)) (T'.the_laws (α κ)) (reader_at h c) ((LL.owed (T.the_type (α κ)) (T'.the_laws (α κ)) h _ here).0, (is, tt))
 
   module _ {M : Type 1} {𝓤 : Ura M} (𝓛 : Logic 𝓤) where
     twice : ent 𝓤 (sem 𝓛 (Own κ h)) (sep 𝓤 (sem 𝓛 (Own κ h)) (sem 𝓛 (Own κ h)))
@@ -72,7 +72,7 @@ module _ (κ : Lft) (h : BitReader) where
         qed 𝓛 (‵ (Own κ h) ∷ []) ∵ use1 𝓛 (‵ (Own κ h) ⊛ ‵ (Own κ h)) twice $ split ! $
         use1 𝓛 (given (mach h ∷ [] ≡ mach h ∷ []) (‵ (Parts κ h))) (own_open 𝓛 (T.the_type (α κ)) (T'.the_laws (α κ)) (h.bytes, (h.cursor, tt)) (mach h)) $ learn ! (λ _. done !)
 
-    pub again : (c : BitCursor) → Is Q.the_row c (Q'.lowered c ∷ []) → ent 𝓤 (sem 𝓛 (Own κ h)) (sem 𝓛 (Own κ (readerAt h c)))
+    pub again : (c : BitCursor) → Is Q.the_row c (Q'.lowered c ∷ []) → ent 𝓤 (sem 𝓛 (Own κ h)) (sem 𝓛 (Own κ (reader_at h c)))
     again c is =
         qed 𝓛 (‵ (Own κ h) ∷ []) ∵ owned ! Q.the_row (Is Q.the_row) (LL.makes Q.the_type Q'.the_plain 𝓛) c _ is $ move ! (1 ∷ 0 ∷ []) $ by ! (own_put 𝓛 (T.the_type (α κ)) (T'.the_laws (α κ)) 1 (h.bytes, (h.cursor, tt)) c (mach h))
 
@@ -129,9 +129,9 @@ module _ {M : Type 1} {𝓤 : Ura M} {𝓛 : Logic 𝓤} {K : Type 0} {Γ : List
       opens t z R {h = v.h} v.b v.o (λ vs. spelt t R (Is R) (shows 𝓛 R) (LL.vals T L) (LL.tells T L) full_share v.h vs v.b v.o $
       use1 𝓛 (‵ (CellAt v.b v.o v.h)) (𝓛.laws.raw_at full_share (T'.mir erased) v.b v.o (mach v.h)) $ move t (1 ∷ []) $ peeks t R (Is R) (shows 𝓛 R) v.h (mach v.h ∷ []) k)
 
-  pub closes-reader : K → Soaks G → (v : Lent) (c : BitCursor) → Is Q.the_row c (Q'.lowered c ∷ []) → Step K 𝓛 (Shut 𝓤 v (readerAt v.h c) (‵ (Own v.κ' v.h) ∷ Γ)) G (Token 𝓤 v ∷ Open 𝓤 v (readerAt v.h c) Γ) G
+  pub closes-reader : K → Soaks G → (v : Lent) (c : BitCursor) → Is Q.the_row c (Q'.lowered c ∷ []) → Step K 𝓛 (Shut 𝓤 v (reader_at v.h c) (‵ (Own v.κ' v.h) ∷ Γ)) G (Token 𝓤 v ∷ Open 𝓤 v (reader_at v.h c) Γ) G
   closes-reader t z v c is = step (λ s.
-      let h' = readerAt v.h c in
+      let h' = reader_at v.h c in
       move t (1 ∷ []) $ use1 𝓛 (‵ (Own v.κ' v.h) ⊛ ‵ (Own v.κ' v.h)) (twice v.κ' v.h 𝓛) $ split t $ use1 𝓛 (‵ (Own v.κ' h')) (again v.κ' v.h 𝓛 c is) $
       -- [what the reader owns at c; what it owned; the token of 'a; its cell; the open borrow; obs; auth; …]
       move t (3 ∷ 0 ∷ 4 ∷ 5 ∷ 6 ∷ []) $ use1 𝓛 (‵ (cell_at full_share (row v.κ').mir (mach h' ∷ []) v.b v.o)) (𝓛.laws.at_raw full_share (T'.mir erased) v.b v.o (mach h')) $

@@ -46,7 +46,7 @@ use denote.Triple.End.{Kepts, Fins}
 use denote.Triple.Entry.{on_entry}
 use denote.Triple.Spec.{Meets, triple_of}
 use denote.Triple.Walked.{Stays, stay_ref, fits_of, has_of, on_exit, walk_of, ends_at, AllGo, Goes-ref, walked}
-use Rattle.openjoc_bit_reader.specs.Reader.{readerAt}
+use Rattle.openjoc_bit_reader.specs.Reader.{reader_at}
 use Rattle.openjoc_bitio.specs.declared.BitCursor.{BitCursor}
 use Rattle.openjoc_bit_reader.proofs.Held.{α, row, mach, bytes_of, Own, Parts, copied, Lent, lfts, shares, lent, pointer, passed, behind, Tokens, Token, Open, Shut, opens-reader, closes-reader}
 use Rattle.openjoc_bit_reader.proofs.Walk.{asks, hears, by-walk}
@@ -132,7 +132,7 @@ module _ (c : Stepper) {M : Type 1} {𝓤 : Ura M} (𝓛 : Logic 𝓤) (v : Lent
         → ((r : c.P.D) → Opd K 𝓛 (Token 𝓤 v ∷ Open 𝓤 v v.h (Locals (Stepped r) Γ)) E y (Q'.lowered (c.cursor r)))
         → ((r : c.P.D) → Is (row_of c.P) r (LL.val c.P c.L r ∷ []) → Is Q.the_row (c.cursor r) (Q'.lowered (c.cursor r) ∷ []))
         → ((r : c.P.D) → r ≡ c.g (v.κ', tt) v.h.bytes.now v.h.cursor ys → Is (row_of c.P) r (LL.val c.P c.L r ∷ []) → Is (row v.κ') v.h (mach v.h ∷ [])
-        → Seq K 𝓛 (Shut 𝓤 v (readerAt v.h (c.cursor r)) (‵ (Own v.κ' v.h) ∷ Locals (Stepped r) Γ)) (runs C Λ E rest p))
+        → Seq K 𝓛 (Shut 𝓤 v (reader_at v.h (c.cursor r)) (‵ (Own v.κ' v.h) ∷ Locals (Stepped r) Γ)) (runs C Λ E rest p))
         → Seq K 𝓛 (‵ (fat full_share τ ls zero (pointer v)) ∷ ‵ (froom slice lb zero) ∷ ‵ (froom Q'.mir lc zero) ∷ ‵ (froom π lm zero) ∷ ‵ ((MutRef (named 0) v.κ (row v.κ')).own_val (lent v) (pointer v ∷ [])) ∷ Tokens 𝓤 v ∷ Γ)
         (runs C Λ E (stepping i j k m f xs y rest) p)
     steps t fm known made ei ej ek em more next cursor-is cont =
@@ -170,7 +170,7 @@ module _ (m : Method) where
   module _ {M : Type 1} (𝓤 : Ura M) (cl : Clauses 𝓤 promised) where
     -- what the contract says of a call that gives r and leaves the reader at the cursor c
     abbrev pub Claim : (v : Lent) (xs : Denots (types_at m.ss (lfts v))) → (cl (lfts v) (lent v, xs)).ghost → (m.ρ.row (lfts v)).Denot → BitCursor → Fins (lfts v) m.ss m.ks xs → SProp 𝓤
-    Claim v xs gh r c ws = (cl (lfts v) (lent v, xs)).ensures gh r (at_exit promised (lfts v) (lent v, xs) (readerAt v.h c, ws))
+    Claim v xs gh r c ws = (cl (lfts v) (lent v, xs)).ensures gh r (at_exit promised (lfts v) (lent v, xs) (reader_at v.h c, ws))
 
     module _ (𝓛 : Logic 𝓤) (v : Lent) (bounds : AllOutlive 2 promised.signature.outlives (lfts v)) (xs : Denots (types_at m.ss (lfts v))) (vss : Valss (types_at m.ss (lfts v))) (gh : (cl (lfts v) (lent v, xs)).ghost) where
       abbrev at : (walk_of 𝓛 promised stayed cl).Ghost
@@ -178,10 +178,10 @@ module _ (m : Method) where
 
       pub ends : (ws : Fins (lfts v) m.ss m.ks xs) → fits_of (lfts v) m.ss m.ks m.hs xs ws → ent 𝓤 (emp 𝓤) (sem 𝓛 (has_of (lfts v) m.ss m.ks m.hs xs ws vss))
           → (r : (m.ρ.row (lfts v)).Denot) (u : Val) (c : BitCursor) → ent 𝓤 (emp 𝓤) (Claim v xs gh r c ws) → (Γ : List (Item 𝓤)) → ent 𝓤 (⋆ 𝓛 Γ) (sem 𝓛 ((m.ρ.row (lfts v)).own_val r (u ∷ [])))
-          → ent 𝓤 (⋆ 𝓛 (Shut 𝓤 v (readerAt v.h c) Γ)) ((walk_of 𝓛 promised stayed cl).post at u)
+          → ent 𝓤 (⋆ 𝓛 (Shut 𝓤 v (reader_at v.h c) Γ)) ((walk_of 𝓛 promised stayed cl).post at u)
       ends ws fits had r u c claim Γ own =
-          let P = on_exit 𝓛 promised stayed (lfts v) (shares v) (pointer v ∷ [], vss) u r (lent v, xs) (readerAt v.h c, ws) in
-          qed 𝓛 (Shut 𝓤 v (readerAt v.h c) Γ) ∵ suffices ! _ (ends_at 𝓛 promised stayed cl at u r (readerAt v.h c, ws) (tt, fits)) $ suffices ! P (via 𝓤 (sep 𝓤 P (emp 𝓤)) (asks 𝓤 P) (mono_r 𝓤 P claim)) $
+          let P = on_exit 𝓛 promised stayed (lfts v) (shares v) (pointer v ∷ [], vss) u r (lent v, xs) (reader_at v.h c, ws) in
+          qed 𝓛 (Shut 𝓤 v (reader_at v.h c) Γ) ∵ suffices ! _ (ends_at 𝓛 promised stayed cl at u r (reader_at v.h c, ws) (tt, fits)) $ suffices ! P (via 𝓤 (sep 𝓤 P (emp 𝓤)) (asks 𝓤 P) (mono_r 𝓤 P claim)) $
           move ! (2 ∷ 3 ∷ []) $ join ! $ frame ! $ feq_i ! (List Val) (pointer v ∷ []) (pointer v ∷ []) refl $ fjoin3 ! $ use0 𝓛 (‵ (has_of (lfts v) m.ss m.ks m.hs xs ws vss)) had $ move ! (1 ∷ 0 ∷ []) $ fjoin ! $ frame ! $ by ! own
 
     module _ (𝓛 : Logic 𝓤) (c : Stepper) (f : Name) (e : Fn) where

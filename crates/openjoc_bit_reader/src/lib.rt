@@ -1,6 +1,6 @@
 // A reader that holds its bytes: the Rust's BitReader, over the cursor of openjoc_bitio.
 ghost use Rattle.std.specs.Prelude.{◌≡◌};
-ghost use Rattle.openjoc_bit_reader.specs.Reader.{bitsStep, bitStep, windowStep, alignStep, opened, readerAt, readerRemaining, bitsRead, bitRead, windowTaken, window, aligned};
+ghost use Rattle.openjoc_bit_reader.specs.Reader.{bits_step, bit_step, window_step, align_step, opened, reader_at, reader_remaining, bits_read, bit_read, window_taken, window, aligned};
 
 use openjoc_bitio::{AlignAnswer, BitAnswer, BitCursor, BitError, BitsAnswer, WindowAnswer};
 
@@ -50,7 +50,7 @@ pub struct AlignStep {
 }
 
 fn bits_step(s: &[u8], c: BitCursor, n: u8) -> BitsStep
-    ensures { result ≡ bitsStep s.now c n }
+    ensures { result ≡ bits_step s.now c n }
 {
     let answer = c.read_bits(s, n);
     match answer {
@@ -66,7 +66,7 @@ fn bits_step(s: &[u8], c: BitCursor, n: u8) -> BitsStep
 }
 
 fn bit_step(s: &[u8], c: BitCursor) -> BitStep
-    ensures { result ≡ bitStep s.now c }
+    ensures { result ≡ bit_step s.now c }
 {
     let answer = c.read_bit(s);
     match answer {
@@ -83,7 +83,7 @@ fn bit_step(s: &[u8], c: BitCursor) -> BitStep
 
 // Where the window is refused, an empty one at the cursor.
 fn window_step(s: &[u8], c: BitCursor, count: usize) -> WindowStep
-    ensures { result ≡ windowStep s.now c count }
+    ensures { result ≡ window_step s.now c count }
 {
     let answer = c.take_bits(s, count);
     match answer {
@@ -104,7 +104,7 @@ fn window_step(s: &[u8], c: BitCursor, count: usize) -> WindowStep
 }
 
 fn align_step(s: &[u8], c: BitCursor) -> AlignStep
-    ensures { result ≡ alignStep s.now c }
+    ensures { result ≡ align_step s.now c }
 {
     let answer = c.byte_align(s);
     match answer {
@@ -143,13 +143,13 @@ impl<'a> BitReader<'a> {
     }
 
     pub fn bits_remaining(&self) -> usize
-        ensures { result ≡ readerRemaining self.now }
+        ensures { result ≡ reader_remaining self.now }
     {
         self.cursor.bits_remaining(self.bytes)
     }
 
     pub fn read_bits(&mut self, n: u8) -> BitsResult
-        ensures { (result ≡ (bitsRead self.old n).result) × (self.new ≡ readerAt self.old (bitsRead self.old n).cursor) }
+        ensures { (result ≡ (bits_read self.old n).result) × (self.new ≡ reader_at self.old (bits_read self.old n).cursor) }
     {
         let step = bits_step(self.bytes, self.cursor, n);
         self.cursor = step.cursor;
@@ -157,7 +157,7 @@ impl<'a> BitReader<'a> {
     }
 
     pub fn read_bit(&mut self) -> BitResult
-        ensures { (result ≡ (bitRead self.old).result) × (self.new ≡ readerAt self.old (bitRead self.old).cursor) }
+        ensures { (result ≡ (bit_read self.old).result) × (self.new ≡ reader_at self.old (bit_read self.old).cursor) }
     {
         let step = bit_step(self.bytes, self.cursor);
         self.cursor = step.cursor;
@@ -165,7 +165,7 @@ impl<'a> BitReader<'a> {
     }
 
     pub fn take_bits(&mut self, count: usize) -> BitWindow<'a>
-        ensures { (result ≡ window self.old count) × (self.new ≡ readerAt self.old (windowTaken self.old count).cursor) }
+        ensures { (result ≡ window self.old count) × (self.new ≡ reader_at self.old (window_taken self.old count).cursor) }
     {
         let bytes = self.bytes;
         let step = window_step(bytes, self.cursor, count);
@@ -180,7 +180,7 @@ impl<'a> BitReader<'a> {
     }
 
     pub fn byte_align(&mut self) -> MoveResult
-        ensures { (result ≡ (aligned self.old).result) × (self.new ≡ readerAt self.old (aligned self.old).cursor) }
+        ensures { (result ≡ (aligned self.old).result) × (self.new ≡ reader_at self.old (aligned self.old).cursor) }
     {
         let step = align_step(self.bytes, self.cursor);
         self.cursor = step.cursor;

@@ -12,41 +12,41 @@ use lib.Dec.{leb, lit<}
 use borrow.Author.Tests.{leb-true, leb-false}
 use lib.Pow.{mod-pow-add, shr-shr, shl-shr, shl_lt, high, low, pow_mono, pow-add, pow_pos}
 use lib.Pow.{split as pow-split}
-use Rattle.openjoc_bitio.specs.Bits.{bit_at, bitsValue, windowAt, swapFour, swapOctets, numberBits}
+use Rattle.openjoc_bitio.specs.Bits.{bit_at, bits_value, window_at, swap_four, swap_octets, number_bits}
 
 pub bit-range : (s : List ℕ) (p : ℕ) → bit_at s p < 2
 unfolding bit_at
 bit-range s p = omega arith
 
-pub value_none : (s : List ℕ) (p : ℕ) → bitsValue s p 0 ≡ 0
-unfolding bitsValue
+pub value_none : (s : List ℕ) (p : ℕ) → bits_value s p 0 ≡ 0
+unfolding bits_value
 value_none s p = refl
 
 -- one bit more, at the end
-pub value-more : (s : List ℕ) (p w : ℕ) → bitsValue s p (w + 1) ≡ bitsValue s p w * 2 + bit_at s (p + w)
-unfolding bitsValue
+pub value-more : (s : List ℕ) (p w : ℕ) → bits_value s p (w + 1) ≡ bits_value s p w * 2 + bit_at s (p + w)
+unfolding bits_value
 value-more s p w = rw add-one
 
-pub value-one : (s : List ℕ) (p : ℕ) → bitsValue s p 1 ≡ bit_at s p
-unfolding bitsValue
+pub value-one : (s : List ℕ) (p : ℕ) → bits_value s p 1 ≡ bit_at s p
+unfolding bits_value
 value-one s p = rw add-zero (omega arith)
 
-pub value-range : (s : List ℕ) (p w : ℕ) → bitsValue s p w < 2 ^ w
-unfolding bitsValue
+pub value-range : (s : List ℕ) (p w : ℕ) → bits_value s p w < 2 ^ w
+unfolding bits_value
 value-range s p zero = lit< tt
 value-range s p (suc w) = rw pow-suc (omega (arith, value-range s p w, bit-range s (p + w)))
 
-pub value-within : (s : List ℕ) (p w n : ℕ) → w ≤ n → bitsValue s p w < 2 ^ n
+pub value-within : (s : List ℕ) (p w n : ℕ) → w ≤ n → bits_value s p w < 2 ^ n
 value-within s p w n h = lt_of_lt_of_le (value-range s p w) (pow_mono h)
 
 -- a read in two parts
-pub value-split : (s : List ℕ) (p i t : ℕ) → bitsValue s p (i + t) ≡ bitsValue s p i * 2 ^ t + bitsValue s (p + i) t
-unfolding bitsValue
+pub value-split : (s : List ℕ) (p i t : ℕ) → bits_value s p (i + t) ≡ bits_value s p i * 2 ^ t + bits_value s (p + i) t
+unfolding bits_value
 value-split s p i zero = rw (add-zero, mul-one, add-zero)
 value-split s p i (suc t) = rw (add-suc, pow-suc, ← mul_assoc, ← add_assoc) (omega (arith, value-split s p i t))
 
 -- one bit more, at the front
-pub value-first : (s : List ℕ) (p w : ℕ) → bitsValue s p (suc w) ≡ bit_at s p * 2 ^ w + bitsValue s (suc p) w
+pub value-first : (s : List ℕ) (p w : ℕ) → bits_value s p (suc w) ≡ bit_at s p * 2 ^ w + bits_value s (suc p) w
 value-first s p w = let e : suc w ≡ 1 + w = omega arith in let f : p + 1 ≡ suc p = omega arith in rw (e, value-split, value-one, f)
 
 -- ---- bits of one octet
@@ -62,19 +62,19 @@ bit-octet s q t e h =
     rw (i, j)
 
 -- t bits of one octet, with e bits of it below them
-pub value-octet : (s : List ℕ) (q t e : ℕ) → q % 8 + t + e ≡ 8 → bitsValue s q t ≡ get_or s (q / 8) 0 / 2 ^ e % 2 ^ t
-unfolding bitsValue
+pub value-octet : (s : List ℕ) (q t e : ℕ) → q % 8 + t + e ≡ 8 → bits_value s q t ≡ get_or s (q / 8) 0 / 2 ^ e % 2 ^ t
+unfolding bits_value
 value-octet s q zero e h = sym (mod-one _)
 value-octet s q (suc t) e h = rw (value-octet s q t (suc e) (omega arith), bit-octet s q t e (omega arith), half)
 
 -- a whole octet
-pub value-byte : (s : List ℕ) (i : ℕ) → get_or s i 0 < 2 ^ 8 → bitsValue s (i * 8) 8 ≡ get_or s i 0
+pub value-byte : (s : List ℕ) (i : ℕ) → get_or s i 0 < 2 ^ 8 → bits_value s (i * 8) 8 ≡ get_or s i 0
 value-byte s i h =
     let e : i * 8 / 8 ≡ i = omega arith in
     value-octet s (i * 8) 8 0 (omega arith) ∙ rw (e, div-one) (mod-eq_of_lt h)
 
 -- one octet more, at the end
-pub value-bytes : (s : List ℕ) (i k : ℕ) → get_or s (i + k) 0 < 2 ^ 8 → bitsValue s (i * 8) (k * 8 + 8) ≡ bitsValue s (i * 8) (k * 8) * 2 ^ 8 + get_or s (i + k) 0
+pub value-bytes : (s : List ℕ) (i k : ℕ) → get_or s (i + k) 0 < 2 ^ 8 → bits_value s (i * 8) (k * 8 + 8) ≡ bits_value s (i * 8) (k * 8) * 2 ^ 8 + get_or s (i + k) 0
 value-bytes s i k h = let e : i * 8 + k * 8 ≡ (i + k) * 8 = omega arith in value-split s (i * 8) (k * 8) 8 ∙ rw (e, value-byte s (i + k) h)
 
 -- ---- bits past the slice
@@ -84,52 +84,52 @@ unfolding bit_at
 bit_past s p h = rw (get_or-eq_default s 0 {n = p / 8} (omega arith), zero-div)
 
 -- the octet that starts r bits into the byte i
-pub octet-value : (s : List ℕ) (i r : ℕ) → r < 8 → get_or s i 0 < 2 ^ 8 → get_or s (i + 1) 0 < 2 ^ 8 → (get_or s i 0 * 256 + get_or s (i + 1) 0) / 2 ^ (8 - r) % 256 ≡ bitsValue s (i * 8 + r) 8
+pub octet-value : (s : List ℕ) (i r : ℕ) → r < 8 → get_or s i 0 < 2 ^ 8 → get_or s (i + 1) 0 < 2 ^ 8 → (get_or s i 0 * 256 + get_or s (i + 1) 0) / 2 ^ (8 - r) % 256 ≡ bits_value s (i * 8 + r) 8
 octet-value s i r h a b =
     let z : (i + 1) * 8 ≡ i * 8 + 8 = omega arith in
     let e : r + 8 + (8 - r) ≡ 16 = omega arith in
-    let y : bitsValue s (i * 8 + 8) 8 ≡ get_or s (i + 1) 0 = rw z at (value-byte s (i + 1) b) in
-    let w : get_or s i 0 * 256 + get_or s (i + 1) 0 ≡ bitsValue s (i * 8) (r + 8 + (8 - r)) = sym (ap (bitsValue s (i * 8)) e ∙ value-split s (i * 8) 8 8 ∙ rw (value-byte s i a, y)) in
-    rw (w, value-split s (i * 8) (r + 8) (8 - r), high (bitsValue s (i * 8) (r + 8)) (8 - r) (value-range s (i * 8 + (r + 8)) (8 - r)), value-split s (i * 8) r 8)
-    (low (bitsValue s (i * 8) r) 8 (value-range s (i * 8 + r) 8))
+    let y : bits_value s (i * 8 + 8) 8 ≡ get_or s (i + 1) 0 = rw z at (value-byte s (i + 1) b) in
+    let w : get_or s i 0 * 256 + get_or s (i + 1) 0 ≡ bits_value s (i * 8) (r + 8 + (8 - r)) = sym (ap (bits_value s (i * 8)) e ∙ value-split s (i * 8) 8 8 ∙ rw (value-byte s i a, y)) in
+    rw (w, value-split s (i * 8) (r + 8) (8 - r), high (bits_value s (i * 8) (r + 8)) (8 - r) (value-range s (i * 8 + (r + 8)) (8 - r)), value-split s (i * 8) r 8)
+    (low (bits_value s (i * 8) r) 8 (value-range s (i * 8 + r) 8))
 
-pub value-past : (s : List ℕ) (p w : ℕ) → length s * 8 ≤ p → bitsValue s p w ≡ 0
-unfolding bitsValue
+pub value-past : (s : List ℕ) (p w : ℕ) → length s * 8 ≤ p → bits_value s p w ≡ 0
+unfolding bits_value
 value-past s p zero h = refl
 value-past s p (suc w) h = rw (value-past s p w h, bit_past s (p + w) (omega arith))
 
 -- e bits more, all past the slice
-pub value-pad : (s : List ℕ) (p t e : ℕ) → length s * 8 ≤ p + t → bitsValue s p (t + e) ≡ bitsValue s p t * 2 ^ e
+pub value-pad : (s : List ℕ) (p t e : ℕ) → length s * 8 ≤ p + t → bits_value s p (t + e) ≡ bits_value s p t * 2 ^ e
 value-pad s p t e h = value-split s p t e ∙ rw (value-past s (p + t) e h, add-zero)
 
 -- ---- words of 64 bits
 
 -- a word of which only the first t bits can be in the slice
-pub value-word : (s : List ℕ) (p t e : ℕ) → t + e ≡ 64 → length s * 8 ≤ p + t → bitsValue s p t * 2 ^ e % 2 ^ 64 ≡ bitsValue s p 64
+pub value-word : (s : List ℕ) (p t e : ℕ) → t + e ≡ 64 → length s * 8 ≤ p + t → bits_value s p t * 2 ^ e % 2 ^ 64 ≡ bits_value s p 64
 value-word s p t e h l = rw (← value-pad s p t e l, h) (mod-eq_of_lt (value-range s p 64))
 
 -- the first j bits of a word are shifted out
-pub value-shift : (s : List ℕ) (q j t : ℕ) → j + t ≡ 64 → bitsValue s q 64 * 2 ^ j % 2 ^ 64 ≡ bitsValue s (q + j) t * 2 ^ j
+pub value-shift : (s : List ℕ) (q j t : ℕ) → j + t ≡ 64 → bits_value s q 64 * 2 ^ j % 2 ^ 64 ≡ bits_value s (q + j) t * 2 ^ j
 value-shift s q j t h =
     let e : t + j ≡ 64 = omega arith in
-    let whole : bitsValue s q 64 * 2 ^ j ≡ bitsValue s q j * 2 ^ 64 + bitsValue s (q + j) t * 2 ^ j =
-    ap (λ (w : ℕ). bitsValue s q w * 2 ^ j) (sym h) ∙ rw (value-split, add-mul, mul_assoc, ← pow-add 2 t j, e) in
-    rw whole (low (bitsValue s q j) 64 (rw e at (shl_lt t j (value-range s (q + j) t))))
+    let whole : bits_value s q 64 * 2 ^ j ≡ bits_value s q j * 2 ^ 64 + bits_value s (q + j) t * 2 ^ j =
+    ap (λ (w : ℕ). bits_value s q w * 2 ^ j) (sym h) ∙ rw (value-split, add-mul, mul_assoc, ← pow-add 2 t j, e) in
+    rw whole (low (bits_value s q j) 64 (rw e at (shl_lt t j (value-range s (q + j) t))))
 
-pub window-past : (s : List ℕ) (p : ℕ) → length s * 8 ≤ p → windowAt s p ≡ 0
-unfolding windowAt
+pub window-past : (s : List ℕ) (p : ℕ) → length s * 8 ≤ p → window_at s p ≡ 0
+unfolding window_at
 window-past s p h = rw (value-past s p (64 - p % 8) h, zero-mul)
 
 -- from the word at p's octet
-pub window-word : (s : List ℕ) (p : ℕ) → bitsValue s (p / 8 * 8) 64 * 2 ^ (p % 8) % 2 ^ 64 ≡ windowAt s p
-unfolding windowAt
+pub window-word : (s : List ℕ) (p : ℕ) → bits_value s (p / 8 * 8) 64 * 2 ^ (p % 8) % 2 ^ 64 ≡ window_at s p
+unfolding window_at
 window-word s p =
     let e : p / 8 * 8 + p % 8 ≡ p = omega arith in
     value-shift s (p / 8 * 8) (p % 8) (64 - p % 8) (omega arith) ∙ rw e
 
 -- from the last bits of the slice, at the top of a word
-pub window-end : (s : List ℕ) (p t j : ℕ) → t + j ≡ 64 → p % 8 ≤ j → length s * 8 ≤ p + t → bitsValue s p t * 2 ^ j ≡ windowAt s p
-unfolding windowAt
+pub window-end : (s : List ℕ) (p t j : ℕ) → t + j ≡ 64 → p % 8 ≤ j → length s * 8 ≤ p + t → bits_value s p t * 2 ^ j ≡ window_at s p
+unfolding window_at
 window-end s p t j h k l =
     let e = j - p % 8 in
     let f : 64 - p % 8 ≡ t + e = omega arith in
@@ -137,18 +137,18 @@ window-end s p t j h k l =
     rw (f, value-pad s p t e l, mul_assoc, ← pow-add 2 e (p % 8), g)
 
 -- the first n bits of a window
-pub window-top : (s : List ℕ) (p n : ℕ) → n ≤ 57 → windowAt s p / 2 ^ (64 - n) ≡ bitsValue s p n
-unfolding windowAt
+pub window-top : (s : List ℕ) (p n : ℕ) → n ≤ 57 → window_at s p / 2 ^ (64 - n) ≡ bits_value s p n
+unfolding window_at
 window-top s p n h =
     let k = p % 8 in
     let m = 64 - k - n in
     let e : 64 - n ≡ k + m = omega arith in
     let f : 64 - k ≡ n + m = omega arith in
-    let parts : bitsValue s p (64 - k) ≡ bitsValue s p n * 2 ^ m + bitsValue s (p + n) m = ap (bitsValue s p) f ∙ value-split s p n m in
-    rw (e, ← shr-shr, shl-shr, parts) (high (bitsValue s p n) m (value-range s (p + n) m))
+    let parts : bits_value s p (64 - k) ≡ bits_value s p n * 2 ^ m + bits_value s (p + n) m = ap (bits_value s p) f ∙ value-split s p n m in
+    rw (e, ← shr-shr, shl-shr, parts) (high (bits_value s p n) m (value-range s (p + n) m))
 
-pub window-range : (s : List ℕ) (p : ℕ) → windowAt s p < 2 ^ 64
-unfolding windowAt
+pub window-range : (s : List ℕ) (p : ℕ) → window_at s p < 2 ^ 64
+unfolding window_at
 window-range s p =
     let e : 64 - p % 8 + p % 8 ≡ 64 = omega arith in
     rw e at (shl_lt (64 - p % 8) (p % 8) (value-range s p (64 - p % 8)))
@@ -161,23 +161,23 @@ bits_below x l j t d =
     let e : x * 2 ^ (j + t + d) ≡ x * 2 ^ d * 2 ^ t * 2 ^ j = rw (pow-add 2 (j + t) d, pow-add 2 j t, mul_comm (2 ^ j * 2 ^ t) (2 ^ d), mul_comm (2 ^ j) (2 ^ t), ← mul_assoc, ← mul_assoc) in
     rw (e, mul-add-div_right (pow_pos j)) (mul-add-mod_self_right (x * 2 ^ d) (2 ^ t) (l / 2 ^ j))
 
-pub swap-four-range : (v : ℕ) → swapFour v < 2 ^ 32
-unfolding swapFour
+pub swap-four-range : (v : ℕ) → swap_four v < 2 ^ 32
+unfolding swap_four
 swap-four-range v = omega arith
 
-pub swap-range : (v : ℕ) → swapOctets v < 2 ^ 64
-unfolding swapOctets
+pub swap-range : (v : ℕ) → swap_octets v < 2 ^ 64
+unfolding swap_octets
 swap-range v = omega (arith, swap-four-range v, swap-four-range (v / 2 ^ 32))
 
 -- only the four low octets matter
-pub swap-four-low : (h l : ℕ) → swapFour (h * 2 ^ 32 + l) ≡ swapFour l
-unfolding swapFour
+pub swap-four-low : (h l : ℕ) → swap_four (h * 2 ^ 32 + l) ≡ swap_four l
+unfolding swap_four
 swap-four-low h l =
     let a : (h * 2 ^ 32 + l) % 2 ^ 8 ≡ l % 2 ^ 8 = omega arith in
     rw (a, bits_below h l 8 8 16, bits_below h l 16 8 8, bits_below h l 24 8 0)
 
-pub swap-halves : (h l : ℕ) → l < 2 ^ 32 → swapOctets (h * 2 ^ 32 + l) ≡ swapFour l * 2 ^ 32 + swapFour h
-unfolding swapOctets
+pub swap-halves : (h l : ℕ) → l < 2 ^ 32 → swap_octets (h * 2 ^ 32 + l) ≡ swap_four l * 2 ^ 32 + swap_four h
+unfolding swap_octets
 swap-halves h l b = rw (high h 32 b, swap-four-low h l)
 
 -- the four low octets of v, the most significant first
@@ -187,14 +187,14 @@ Octets v a b c d = (v / 2 ^ 24 % 2 ^ 8 ≡ a) × (v / 2 ^ 16 % 2 ^ 8 ≡ b) × (
 octets-of : (a b c d : ℕ) → a < 2 ^ 8 → b < 2 ^ 8 → c < 2 ^ 8 → d < 2 ^ 8 → Octets (a * 2 ^ 24 + b * 2 ^ 16 + c * 2 ^ 8 + d) a b c d
 octets-of a b c d h i j l = (omega arith, omega arith, omega arith, omega arith)
 
-swap-four-octet : (v k : ℕ) → k < 4 → swapFour v / 2 ^ (8 * k) % 2 ^ 8 ≡ v / 2 ^ (8 * (3 - k)) % 2 ^ 8
-unfolding swapFour
+swap-four-octet : (v k : ℕ) → k < 4 → swap_four v / 2 ^ (8 * k) % 2 ^ 8 ≡ v / 2 ^ (8 * (3 - k)) % 2 ^ 8
+unfolding swap_four
 swap-four-octet v = by_place
   where
-    e : Octets (swapFour v) (v % 2 ^ 8) (v / 2 ^ 8 % 2 ^ 8) (v / 2 ^ 16 % 2 ^ 8) (v / 2 ^ 24 % 2 ^ 8)
+    e : Octets (swap_four v) (v % 2 ^ 8) (v / 2 ^ 8 % 2 ^ 8) (v / 2 ^ 16 % 2 ^ 8) (v / 2 ^ 24 % 2 ^ 8)
     e = octets-of (v % 2 ^ 8) (v / 2 ^ 8 % 2 ^ 8) (v / 2 ^ 16 % 2 ^ 8) (v / 2 ^ 24 % 2 ^ 8) (omega arith) (omega arith) (omega arith) (omega arith)
 
-    by_place : (k : ℕ) → k < 4 → swapFour v / 2 ^ (8 * k) % 2 ^ 8 ≡ v / 2 ^ (8 * (3 - k)) % 2 ^ 8
+    by_place : (k : ℕ) → k < 4 → swap_four v / 2 ^ (8 * k) % 2 ^ 8 ≡ v / 2 ^ (8 * (3 - k)) % 2 ^ 8
     by_place zero h = rw div-one e.3
     by_place (suc zero) h = e.2
     by_place (suc (suc zero)) h = e.1
@@ -202,27 +202,27 @@ swap-four-octet v = by_place
     by_place (suc (suc (suc (suc k)))) h = omega arith
 
 -- octet k from the least significant
-pub swap-octet : (v k : ℕ) → v < 2 ^ 64 → k < 8 → swapOctets v / 2 ^ (8 * k) % 2 ^ 8 ≡ v / 2 ^ (8 * (7 - k)) % 2 ^ 8
-unfolding swapOctets
+pub swap-octet : (v k : ℕ) → v < 2 ^ 64 → k < 8 → swap_octets v / 2 ^ (8 * k) % 2 ^ 8 ≡ v / 2 ^ (8 * (7 - k)) % 2 ^ 8
+unfolding swap_octets
 swap-octet v k l h = by-half (leb 4 k) refl
   where
-    by-half : (t : Bool) → leb 4 k ≡ t → swapOctets v / 2 ^ (8 * k) % 2 ^ 8 ≡ v / 2 ^ (8 * (7 - k)) % 2 ^ 8
+    by-half : (t : Bool) → leb 4 k ≡ t → swap_octets v / 2 ^ (8 * k) % 2 ^ 8 ≡ v / 2 ^ (8 * (7 - k)) % 2 ^ 8
     by-half true i =
         let m : 4 ≤ k = leb-true 4 k i in
         let e : 8 * k ≡ 32 + 8 * (k - 4) = omega arith in
         let f : 7 - k ≡ 3 - (k - 4) = omega arith in
-        rw (e, f, ← shr-shr, high (swapFour v) 32 (swap-four-range (v / 2 ^ 32))) (swap-four-octet v (k - 4) (omega arith))
+        rw (e, f, ← shr-shr, high (swap_four v) 32 (swap-four-range (v / 2 ^ 32))) (swap-four-octet v (k - 4) (omega arith))
     by-half false i =
         let m : k < 4 = leb-false 4 k i in
         let e : 32 ≡ 8 * k + 8 + (24 - 8 * k) = omega arith in
         let f : 8 * (7 - k) ≡ 32 + 8 * (3 - k) = omega arith in
-        ap (λ (n : ℕ). (swapFour v * 2 ^ n + swapFour (v / 2 ^ 32)) / 2 ^ (8 * k) % 2 ^ 8) e
-        ∙ bits_below (swapFour v) (swapFour (v / 2 ^ 32)) (8 * k) 8 (24 - 8 * k)
+        ap (λ (n : ℕ). (swap_four v * 2 ^ n + swap_four (v / 2 ^ 32)) / 2 ^ (8 * k) % 2 ^ 8) e
+        ∙ bits_below (swap_four v) (swap_four (v / 2 ^ 32)) (8 * k) 8 (24 - 8 * k)
         ∙ swap-four-octet (v / 2 ^ 32) k m ∙ rw (shr-shr, ← f)
 
 swap-digits : (a b c d : ℕ) → a < 2 ^ 8 → b < 2 ^ 8 → c < 2 ^ 8 → d < 2 ^ 8
-    → swapFour (a + b * 2 ^ 8 + c * 2 ^ 16 + d * 2 ^ 24) ≡ a * 2 ^ 24 + b * 2 ^ 16 + c * 2 ^ 8 + d
-unfolding swapFour
+    → swap_four (a + b * 2 ^ 8 + c * 2 ^ 16 + d * 2 ^ 24) ≡ a * 2 ^ 24 + b * 2 ^ 16 + c * 2 ^ 8 + d
+unfolding swap_four
 swap-digits a b c d h i j l =
     let e : a + b * 2 ^ 8 + c * 2 ^ 16 + d * 2 ^ 24 ≡ d * 2 ^ 24 + c * 2 ^ 16 + b * 2 ^ 8 + a = omega arith in
     let f = octets-of d c b a l j i h in
@@ -230,18 +230,18 @@ swap-digits a b c d h i j l =
 
 -- four octets of the slice, the first the least significant
 pub swap-four-value : (s : List ℕ) (i : ℕ) → ((k : ℕ) → get_or s k 0 < 2 ^ 8)
-    → swapFour (get_or s i 0 + get_or s (i + 1) 0 * 2 ^ 8 + get_or s (i + 2) 0 * 2 ^ 16 + get_or s (i + 3) 0 * 2 ^ 24) ≡ bitsValue s (i * 8) 32
+    → swap_four (get_or s i 0 + get_or s (i + 1) 0 * 2 ^ 8 + get_or s (i + 2) 0 * 2 ^ 16 + get_or s (i + 3) 0 * 2 ^ 24) ≡ bits_value s (i * 8) 32
 swap-four-value s i h =
-    let first : bitsValue s (i * 8) 8 ≡ get_or s i 0 = value-byte s i (h i) in
-    let more : (k : ℕ) → bitsValue s (i * 8) (k * 8 + 8) ≡ bitsValue s (i * 8) (k * 8) * 2 ^ 8 + get_or s (i + k) 0 = λ k. value-bytes s i k (h (i + k)) in
+    let first : bits_value s (i * 8) 8 ≡ get_or s i 0 = value-byte s i (h i) in
+    let more : (k : ℕ) → bits_value s (i * 8) (k * 8 + 8) ≡ bits_value s (i * 8) (k * 8) * 2 ^ 8 + get_or s (i + k) 0 = λ k. value-bytes s i k (h (i + k)) in
     swap-digits (get_or s i 0) (get_or s (i + 1) 0) (get_or s (i + 2) 0) (get_or s (i + 3) 0) (h i) (h (i + 1)) (h (i + 2)) (h (i + 3))
     ∙ omega (arith, more 1, more 2, more 3)
 
 -- ---- the same bits elsewhere
 
 -- a value depends on its bits alone
-pub value_same : (s r : List ℕ) (p q w : ℕ) → ((i : ℕ) → i < w → bit_at s (p + i) ≡ bit_at r (q + i)) → bitsValue s p w ≡ bitsValue r q w
-unfolding bitsValue
+pub value_same : (s r : List ℕ) (p q w : ℕ) → ((i : ℕ) → i < w → bit_at s (p + i) ≡ bit_at r (q + i)) → bits_value s p w ≡ bits_value r q w
+unfolding bits_value
 value_same s r p q zero h = refl
 value_same s r p q (suc w) h = rw (value_same s r p q w (λ i l. h i (omega arith)), h w (omega arith))
 
@@ -257,45 +257,45 @@ bit-drop s n p =
     rw (i, j, get_or-drop)
 
 -- reads in the first n bytes, after them, and before bytes that follow
-pub value-take : (s : List ℕ) (n p w : ℕ) → p + w ≤ n * 8 → bitsValue (take n s) p w ≡ bitsValue s p w
+pub value-take : (s : List ℕ) (n p w : ℕ) → p + w ≤ n * 8 → bits_value (take n s) p w ≡ bits_value s p w
 value-take s n p w h = value_same (take n s) s p p w (λ i l. bit-take s n (p + i) (omega arith))
 
-pub value-drop : (s : List ℕ) (n p w : ℕ) → bitsValue (drop n s) p w ≡ bitsValue s (n * 8 + p) w
+pub value-drop : (s : List ℕ) (n p w : ℕ) → bits_value (drop n s) p w ≡ bits_value s (n * 8 + p) w
 value-drop s n p w = value_same (drop n s) s p (n * 8 + p) w (λ i l. rw add_assoc (bit-drop s n (p + i)))
 
 bit-append : (s r : List ℕ) (p : ℕ) → p < length s * 8 → bit_at (s ++ r) p ≡ bit_at s p
 unfolding bit_at
 bit-append s r p h = let l : p / 8 < length s = omega arith in rw get_or-append
 
-pub value-append : (s r : List ℕ) (p w : ℕ) → p + w ≤ length s * 8 → bitsValue (s ++ r) p w ≡ bitsValue s p w
+pub value-append : (s r : List ℕ) (p w : ℕ) → p + w ≤ length s * 8 → bits_value (s ++ r) p w ≡ bits_value s p w
 value-append s r p w h = value_same (s ++ r) s p p w (λ i l. bit-append s r (p + i) (omega arith))
 
 -- a turn of the octet-wise read: t bits more, and a number of at most 64 bits
-pub value-turn : (s : List ℕ) (p i t v r q : ℕ) → i + t ≤ 64 → v ≡ bitsValue s p i → r ≡ 2 ^ t → q ≡ bitsValue s (p + i) t
-    → (v * r + q ≡ bitsValue s p (i + t)) × (v * r + q < 2 ^ 64)
+pub value-turn : (s : List ℕ) (p i t v r q : ℕ) → i + t ≤ 64 → v ≡ bits_value s p i → r ≡ 2 ^ t → q ≡ bits_value s (p + i) t
+    → (v * r + q ≡ bits_value s p (i + t)) × (v * r + q < 2 ^ 64)
 value-turn s p i t v r q h a b d =
-    let e : v * r + q ≡ bitsValue s p (i + t) = rw (a, b, d, value-split) in
+    let e : v * r + q ≡ bits_value s p (i + t) = rw (a, b, d, value-split) in
     (e, rw e (value-within s p (i + t) 64 h))
 
 -- ---- the bits of a number
 
-pub length-number : (w v : ℕ) → length (numberBits w v) ≡ w
-unfolding numberBits
+pub length-number : (w v : ℕ) → length (number_bits w v) ≡ w
+unfolding number_bits
 length-number zero v = refl
 length-number (suc w) v = ap suc (length-number w v)
 
 -- the low bits of a number are those of its rest
-pub number-high : (w d x l : ℕ) → numberBits w (x * 2 ^ (w + d) + l) ≡ numberBits w l
-unfolding numberBits
+pub number-high : (w d x l : ℕ) → number_bits w (x * 2 ^ (w + d) + l) ≡ number_bits w l
+unfolding number_bits
 number-high zero d x l = refl
 number-high (suc w) d x l =
     let e : suc w + d ≡ w + 1 + d = omega arith in
     let f : suc w + d ≡ w + suc d = omega arith in
     let h : (x * 2 ^ (suc w + d) + l) / 2 ^ w % 2 ≡ l / 2 ^ w % 2 = rw e (bits_below x l w 1 d) in
-    let t : numberBits w (x * 2 ^ (suc w + d) + l) ≡ numberBits w l = rw f (number-high w (suc d) x l) in
+    let t : number_bits w (x * 2 ^ (suc w + d) + l) ≡ number_bits w l = rw f (number-high w (suc d) x l) in
     rw (h, t)
 
-pub number-low : (w v : ℕ) → numberBits w (v % 2 ^ w) ≡ numberBits w v
+pub number-low : (w v : ℕ) → number_bits w (v % 2 ^ w) ≡ number_bits w v
 number-low w v =
     let e : v / 2 ^ w * 2 ^ (w + 0) + v % 2 ^ w ≡ v = rw add-zero (pow-split v w) in
-    sym (number-high w 0 (v / 2 ^ w) (v % 2 ^ w)) ∙ ap (numberBits w) e
+    sym (number-high w 0 (v / 2 ^ w) (v % 2 ^ w)) ∙ ap (number_bits w) e

@@ -8,9 +8,9 @@ use native.Mathlib.Omega.{arith}
 use lib.ListN.{length}
 use lib.Dec.{leb, ltb}
 use borrow.Author.Tests.{leb-true, le-leb, lt-leb, lt-ltb}
-use Rattle.openjoc_bitio.specs.Choice.{if◌then◌else◌}
-use Rattle.openjoc_bitio.specs.Bits.{bitsValue}
-use Rattle.openjoc_bitio.specs.Cursor.{bitLength, bitsRemaining, past, readBits}
+use Rattle.std.specs.Prelude.{if◌then◌else◌}
+use Rattle.openjoc_bitio.specs.Bits.{bits_value}
+use Rattle.openjoc_bitio.specs.Cursor.{bit_length, bits_remaining, past, read_bits}
 use Rattle.openjoc_bitio.specs.declared.BitCursor.{BitCursor}
 use Rattle.openjoc_bitio.specs.declared.BitError.TheVariants.{InvalidWidth, EndOfInput}
 use Rattle.openjoc_bitio.specs.declared.BitsAnswer.TheVariants.{Value, Refused}
@@ -19,44 +19,44 @@ under : {x y : ℕ} (b : Bool) → (b ≡ true → x ≤ y) → (if b then x els
 under true h = h refl
 under false h = zero-le
 
-length-bits : (s : List ℕ) → bitLength s ≤ length s * 8
-unfolding bitLength
+length-bits : (s : List ℕ) → bit_length s ≤ length s * 8
+unfolding bit_length
 length-bits s = under (ltb (length s) (2 ^ 61)) (λ h. le_refl _)
 
 -- what is left lies before the end, and in the slice
-pub remaining-end : (s : List ℕ) (c : BitCursor) → bitsRemaining s c ≤ c.end - c.position
-unfolding bitsRemaining
-remaining-end s c = under (leb c.end (bitLength s)) (λ h. le_refl _)
+pub remaining-end : (s : List ℕ) (c : BitCursor) → bits_remaining s c ≤ c.end - c.position
+unfolding bits_remaining
+remaining-end s c = under (leb c.end (bit_length s)) (λ h. le_refl _)
 
-pub remaining-slice : (s : List ℕ) (c : BitCursor) → bitsRemaining s c ≤ length s * 8 - c.position
-unfolding bitsRemaining
-remaining-slice s c = under (leb c.end (bitLength s)) (λ h. omega (arith, leb-true c.end (bitLength s) h, length-bits s))
+pub remaining-slice : (s : List ℕ) (c : BitCursor) → bits_remaining s c ≤ length s * 8 - c.position
+unfolding bits_remaining
+remaining-slice s c = under (leb c.end (bit_length s)) (λ h. omega (arith, leb-true c.end (bit_length s) h, length-bits s))
 
 -- a cursor that lies in the slice
-pub remaining-inside : (s : List ℕ) (c : BitCursor) → length s < 2 ^ 61 → c.end ≤ length s * 8 → bitsRemaining s c ≡ c.end - c.position
-unfolding bitsRemaining bitLength
+pub remaining-inside : (s : List ℕ) (c : BitCursor) → length s < 2 ^ 61 → c.end ≤ length s * 8 → bits_remaining s c ≡ c.end - c.position
+unfolding bits_remaining bit_length
 remaining-inside s c h k = simp (lt-ltb (length s) (2 ^ 61) h, le-leb c.end (length s * 8) k)
 
 -- ---- the three answers of a read
 
-pub read-accepted : (s : List ℕ) (c : BitCursor) (w : ℕ) → w ≤ 64 → w ≤ bitsRemaining s c → readBits s c w ≡ Value (bitsValue s c.position w) (past c w)
-unfolding readBits
-read-accepted s c w h k = simp (le-leb w 64 h, le-leb w (bitsRemaining s c) k)
+pub read-accepted : (s : List ℕ) (c : BitCursor) (w : ℕ) → w ≤ 64 → w ≤ bits_remaining s c → read_bits s c w ≡ Value (bits_value s c.position w) (past c w)
+unfolding read_bits
+read-accepted s c w h k = simp (le-leb w 64 h, le-leb w (bits_remaining s c) k)
 
-pub read-ended : (s : List ℕ) (c : BitCursor) (w : ℕ) → w ≤ 64 → bitsRemaining s c < w → readBits s c w ≡ Refused (EndOfInput w (bitsRemaining s c))
-unfolding readBits
-read-ended s c w h k = simp (le-leb w 64 h, lt-leb w (bitsRemaining s c) k)
+pub read-ended : (s : List ℕ) (c : BitCursor) (w : ℕ) → w ≤ 64 → bits_remaining s c < w → read_bits s c w ≡ Refused (EndOfInput w (bits_remaining s c))
+unfolding read_bits
+read-ended s c w h k = simp (le-leb w 64 h, lt-leb w (bits_remaining s c) k)
 
-pub read-too-wide : (s : List ℕ) (c : BitCursor) (w : ℕ) → 64 < w → readBits s c w ≡ Refused (InvalidWidth w)
-unfolding readBits
+pub read-too-wide : (s : List ℕ) (c : BitCursor) (w : ℕ) → 64 < w → read_bits s c w ≡ Refused (InvalidWidth w)
+unfolding read_bits
 read-too-wide s c w h = simp (lt-leb w 64 h)
 
 -- a read that is accepted leaves the cursor past its bits
-pub read_past : (s : List ℕ) (c : BitCursor) (w : ℕ) {v : ℕ} {d : BitCursor} → readBits s c w ≡ Value v d → past c w ≡ d
-unfolding readBits
-read_past s c w {v} {d} h = go (leb w 64) (leb w (bitsRemaining s c)) h
+pub read_past : (s : List ℕ) (c : BitCursor) (w : ℕ) {v : ℕ} {d : BitCursor} → read_bits s c w ≡ Value v d → past c w ≡ d
+unfolding read_bits
+read_past s c w {v} {d} h = go (leb w 64) (leb w (bits_remaining s c)) h
   where
-    go : (x y : Bool) → (if x then (if y then Value (bitsValue s c.position w) (past c w) else Refused (EndOfInput w (bitsRemaining s c))) else Refused (InvalidWidth w)) ≡ Value v d → past c w ≡ d
+    go : (x y : Bool) → (if x then (if y then Value (bits_value s c.position w) (past c w) else Refused (EndOfInput w (bits_remaining s c))) else Refused (InvalidWidth w)) ≡ Value v d → past c w ≡ d
     go true true f = cc
     go true false f = absurd (let z : ◌≡◌ {A = ℕ} 0 1 = cc in omega arith)
     go false y f = absurd (let z : ◌≡◌ {A = ℕ} 0 1 = cc in omega arith)

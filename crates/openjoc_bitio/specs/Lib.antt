@@ -1,4 +1,3 @@
 pub mod Types
-pub mod Choice
 pub mod Bits
 pub mod Cursor

@@ -1,7 +1,7 @@
 // Checked, most-significant-bit-first reading of a bounded bit slice: the port of openjoc-bitio.
 ghost use Rattle.std.specs.Prelude.{◌≡◌, min, ◌+◌, ◌-◌, ◌*◌, ◌/◌, ◌%◌, ◌^◌, ◌<◌, ◌≤◌, length};
-ghost use Rattle.openjoc_bitio.specs.Bits.{bit_at, bitsValue, windowAt, swapFour, swapOctets};
-ghost use Rattle.openjoc_bitio.specs.Cursor.{bitLength, wholeSlice, bitsRemaining, readBits, readBit, takeBits, byteAlign};
+ghost use Rattle.openjoc_bitio.specs.Bits.{bit_at, bits_value, window_at, swap_four, swap_octets};
+ghost use Rattle.openjoc_bitio.specs.Cursor.{bit_length, whole_slice, bits_remaining, read_bits, read_bit, take_bits, byte_align};
 
 // A bit's place in a carrier, counted from the carrier's first bit.
 #[derive(Drop)]
@@ -59,7 +59,7 @@ pub enum AlignAnswer {
 impl BitCursor {
     // All of s.
     pub fn new(s: &[u8]) -> Self
-        ensures { result ≡ wholeSlice s.now }
+        ensures { result ≡ whole_slice s.now }
     {
         BitCursor {
             position: 0,
@@ -68,7 +68,7 @@ impl BitCursor {
     }
 
     pub fn bits_remaining(self, s: &[u8]) -> usize
-        ensures { result ≡ bitsRemaining s.now self }
+        ensures { result ≡ bits_remaining s.now self }
     {
         let position = self.position;
         let end = self.end;
@@ -83,7 +83,7 @@ impl BitCursor {
 
     // The next n bits, at most 64 of them.
     pub fn read_bits(self, s: &[u8], n: u8) -> BitsAnswer
-        ensures { result ≡ readBits s.now self n }
+        ensures { result ≡ read_bits s.now self n }
     {
         if 64 < n {
             return BitsAnswer::Refused(BitError::InvalidWidth { width: n });
@@ -101,7 +101,7 @@ impl BitCursor {
     }
 
     pub fn read_bit(self, s: &[u8]) -> BitAnswer
-        ensures { result ≡ readBit s.now self }
+        ensures { result ≡ read_bit s.now self }
     {
         let remaining = self.bits_remaining(s);
         if remaining < 1 {
@@ -116,7 +116,7 @@ impl BitCursor {
 
     // The next count bits as a cursor of their own.
     pub fn take_bits(self, s: &[u8], count: usize) -> WindowAnswer
-        ensures { result ≡ takeBits s.now self count }
+        ensures { result ≡ take_bits s.now self count }
     {
         let remaining = self.bits_remaining(s);
         if remaining < count {
@@ -135,7 +135,7 @@ impl BitCursor {
 
     // To the next byte of the slice, past bits that are not looked at.
     pub fn byte_align(self, s: &[u8]) -> AlignAnswer
-        ensures { result ≡ byteAlign s.now self }
+        ensures { result ≡ byte_align s.now self }
     {
         let remaining = self.bits_remaining(s);
         let position = self.position;
@@ -162,7 +162,7 @@ impl BitCursor {
 
 // The bits of s that a cursor can count: none where there are 2^64 or more.
 fn bit_length(s: &[u8]) -> usize
-    ensures { result ≡ bitLength s.now }
+    ensures { result ≡ bit_length s.now }
 {
     let n = s.len();
     if 0x2000_0000_0000_0000 <= n {
@@ -184,7 +184,7 @@ fn bit_at(s: &[u8], p: usize) -> u64
 // The value of the w bits from position p.
 fn value_at(s: &[u8], p: usize, w: usize) -> u64
     requires { (w ≤ 64) × (w ≤ length s.now * 8 - p) × (p + w < 2 ^ 64) }
-    ensures { result ≡ bitsValue s.now p w }
+    ensures { result ≡ bits_value s.now p w }
 {
     if w == 0 {
         return 0;
@@ -198,7 +198,7 @@ fn value_at(s: &[u8], p: usize, w: usize) -> u64
 // The bits from position p to the end of its octet and of the seven after it, at least 57, at the top of a word; those
 // past the slice are 0.
 pub fn window_at(s: &[u8], p: usize) -> u64
-    ensures { result ≡ windowAt s.now p }
+    ensures { result ≡ window_at s.now p }
 {
     let i = p / 8;
     if s.len() < i + 8 {
@@ -210,7 +210,7 @@ pub fn window_at(s: &[u8], p: usize) -> u64
 // The same where it reaches past the slice.
 fn last_window(s: &[u8], p: usize) -> u64
     requires { length s.now < p / 8 + 8 }
-    ensures { result ≡ windowAt s.now p }
+    ensures { result ≡ window_at s.now p }
 {
     let i = p / 8;
     let n = s.len();
@@ -226,7 +226,7 @@ fn last_window(s: &[u8], p: usize) -> u64
 // The octets from index i on, fewer than eight, as a number.
 fn few_octets(s: &[u8], i: usize) -> u64
     requires { (i ≤ length s.now) × (length s.now < i + 8) }
-    ensures { result ≡ bitsValue s.now (i * 8) ((length s.now - i) * 8) }
+    ensures { result ≡ bits_value s.now (i * 8) ((length s.now - i) * 8) }
 {
     let mut value: u64 = 0;
     let mut k = i;
@@ -241,7 +241,7 @@ fn few_octets(s: &[u8], i: usize) -> u64
 // to one load.
 pub fn octets_at(s: &[u8], i: usize) -> u64
     requires { i + 8 ≤ length s.now }
-    ensures { result ≡ bitsValue s.now (i * 8) 64 }
+    ensures { result ≡ bits_value s.now (i * 8) 64 }
 {
     swap_octets(little_four(s, i) + little_four(s, i + 4) * 0x1_0000_0000)
 }
@@ -249,14 +249,14 @@ pub fn octets_at(s: &[u8], i: usize) -> u64
 // The four octets from index i on, the first the least significant.
 fn little_four(s: &[u8], i: usize) -> u64
     requires { i + 4 ≤ length s.now }
-    ensures { (result < 2 ^ 32) × (swapFour result ≡ bitsValue s.now (i * 8) 32) }
+    ensures { (result < 2 ^ 32) × (swap_four result ≡ bits_value s.now (i * 8) 32) }
 {
     wide(s[i]) + wide(s[i + 1]) * 0x100 + wide(s[i + 2]) * 0x1_0000 + wide(s[i + 3]) * 0x100_0000
 }
 
 // v with its eight octets in the opposite order.
 pub fn swap_octets(v: u64) -> u64
-    ensures { result ≡ swapOctets v }
+    ensures { result ≡ swap_octets v }
 {
     swap_four(v % 0x1_0000_0000) * 0x1_0000_0000 + swap_four(v >> 32)
 }
@@ -264,7 +264,7 @@ pub fn swap_octets(v: u64) -> u64
 // The same of four octets.
 fn swap_four(v: u64) -> u64
     requires { v < 2 ^ 32 }
-    ensures { result ≡ swapFour v }
+    ensures { result ≡ swap_four v }
 {
     (v >> 24) + (v >> 16) % 256 * 0x100 + (v >> 8) % 256 * 0x1_0000 + v % 256 * 0x100_0000
 }
@@ -272,7 +272,7 @@ fn swap_four(v: u64) -> u64
 // Many bits are taken an octet at a time.
 fn long_value(s: &[u8], p: usize, w: usize) -> u64
     requires { (w ≤ 64) × (w ≤ length s.now * 8 - p) × (p + w < 2 ^ 64) }
-    ensures { result ≡ bitsValue s.now p w }
+    ensures { result ≡ bits_value s.now p w }
 {
     let mut value: u64 = 0;
     let mut done: usize = 0;
@@ -288,7 +288,7 @@ fn long_value(s: &[u8], p: usize, w: usize) -> u64
 // The value of the t bits from position q, which lie in one octet.
 fn octet_bits(s: &[u8], q: usize, t: usize) -> u64
     requires { (q % 8 + t ≤ 8) × (q / 8 < length s.now) }
-    ensures { result ≡ bitsValue s.now q t }
+    ensures { result ≡ bits_value s.now q t }
 {
     let i = q / 8;
     let below = 8 - q % 8 - t;

@@ -3,7 +3,7 @@
 ghost use Rattle.std.specs.Prelude.{◌≡◌, ◌+◌, ◌-◌, ◌*◌, ◌^◌, ◌≤◌, ◌<◌, length};
 ghost use Rattle.emdf_format.specs.Reading.{reading};
 ghost use Rattle.emdf_format.specs.Calls.{classify};
-ghost use Rattle.openjoc_emdf.specs.Answers.{parseAnswer, parsedOf, classAnswer, classifiedOf, reachedBy, firstPayload, openAnswer, parseError};
+ghost use Rattle.openjoc_emdf.specs.Answers.{parse_answer, parsed_of, class_answer, classified_of, reached_by, first_payload, open_answer, parse_error};
 
 use emdf_container::{ContainerAnswer, EmdfContainer};
 use emdf_fields::FieldAnswer;
@@ -49,7 +49,7 @@ pub enum CarrierClassification {
 
 // Reads the carrier at the start of bytes; what follows it is not looked at.
 pub fn parse_emdf_sync(bytes: &[u8]) -> ParseAnswer
-    ensures { result ≡ parseAnswer (reading bytes.now) }
+    ensures { result ≡ parse_answer (reading bytes.now) }
 {
     let length = bytes.len();
     if length < 4 {
@@ -81,7 +81,7 @@ pub fn parse_emdf_sync(bytes: &[u8]) -> ParseAnswer
 }
 
 fn parsed(answer: ContainerAnswer, n: usize) -> ParseAnswer
-    ensures { result ≡ parsedOf answer n }
+    ensures { result ≡ parsed_of answer n }
 {
     match answer {
         ContainerAnswer::Container(container) => ParseAnswer::Parsed(ParsedEmdf {
@@ -94,7 +94,7 @@ fn parsed(answer: ContainerAnswer, n: usize) -> ParseAnswer
 
 // Reads the carrier, for a caller who then goes through its payloads with next_payload.
 pub fn open_carrier(bytes: &[u8]) -> OpenAnswer
-    ensures { result ≡ openAnswer bytes.now (reading bytes.now) }
+    ensures { result ≡ open_answer bytes.now (reading bytes.now) }
 {
     let a = parse_emdf_sync(bytes);
     let ParseAnswer::Parsed(parsed) = a else {
@@ -106,7 +106,7 @@ pub fn open_carrier(bytes: &[u8]) -> OpenAnswer
 // Past the version, which is 0 and takes 2 bits, and past the key id.
 fn first_payload(bytes: &[u8], n: usize) -> BitCursor
     requires { (n ≤ length bytes.now) × (n * 8 < 2 ^ 64) }
-    ensures { result ≡ firstPayload n bytes.now }
+    ensures { result ≡ first_payload n bytes.now }
 {
     // A key id below the escape takes 3 bits.
     if 5 <= n {
@@ -125,7 +125,7 @@ fn first_payload(bytes: &[u8], n: usize) -> BitCursor
 }
 
 fn reached(a: FieldAnswer) -> BitCursor
-    ensures { result ≡ reachedBy a }
+    ensures { result ≡ reached_by a }
 {
     match a {
         FieldAnswer::Value(_, c) => c,
@@ -134,7 +134,7 @@ fn reached(a: FieldAnswer) -> BitCursor
 }
 
 fn parse_error(a: ParseAnswer) -> EmdfError
-    ensures { result ≡ parseError a result }
+    ensures { result ≡ parse_error a result }
 {
     match a {
         ParseAnswer::Parsed(_) => EmdfError::ValueOverflow,
@@ -151,7 +151,7 @@ fn big_endian(a: u8, b: u8) -> u16
 
 // What a range of bytes is. It never looks for a sync word but at its start.
 pub fn classify_emdf_carrier(bytes: &[u8]) -> CarrierClassification
-    ensures { result ≡ classAnswer (classify bytes.now) }
+    ensures { result ≡ class_answer (classify bytes.now) }
 {
     let length = bytes.len();
     if length < 2 {
@@ -164,7 +164,7 @@ pub fn classify_emdf_carrier(bytes: &[u8]) -> CarrierClassification
 }
 
 fn classified(answer: ParseAnswer, length: usize) -> CarrierClassification
-    ensures { result ≡ classifiedOf answer length }
+    ensures { result ≡ classified_of answer length }
 {
     match answer {
         ParseAnswer::Parsed(parsed) => {

@@ -42,7 +42,7 @@ use denote.Triple.Clauses.{Ended, Clauses, Lasts, at_exit, closing}
 use denote.Triple.Entry.{on_entry}
 use denote.Triple.Spec.{Meets, triple_of}
 use denote.Triple.Walked.{says, Stays, stay_none_slice, stay_none, walk_of, Goes-none_slice, Goes-none, ends_at, walked}
-use Rattle.openjoc_bit_reader.specs.Reader.{readerAt}
+use Rattle.openjoc_bit_reader.specs.Reader.{reader_at}
 use Rattle.openjoc_bitio.specs.declared.BitCursor.{BitCursor}
 use Rattle.openjoc_bit_reader.specs.declared.BitReader.{BitReader}
 use Rattle.openjoc_bit_reader.proofs.Held.{α, row, mach, Own, CellAt, Lent, lfts, lent}
@@ -114,7 +114,7 @@ module _ (s : En.Declared) (fl : LL.FLaws (En.field s)) (pl : LL.Plain (En.field
 
       -- what the method says
       abbrev claims : (v : Lent) → s.D → BitReader → Type 0
-      claims v r h = let d = g v.h.bytes.now v.h.cursor in (r ≡ result d) × (h ≡ readerAt v.h (cursor d))
+      claims v r h = let d = g v.h.bytes.now v.h.cursor in (r ≡ result d) × (h ≡ reader_at v.h (cursor d))
 
       module _ (cl : Clauses 𝓤 (promised method)) (gh : (v : Lent) → (cl (lfts v) (lent v, tt)).ghost) (free : (v : Lent) → ent 𝓤 (emp 𝓤) ((cl (lfts v) (lent v, tt)).requires (gh v)))
           (says_so : (v : Lent) (r : s.D) (ws : Lasts (promised method) (lfts v) (lent v, tt)) → ent 𝓤 ((cl (lfts v) (lent v, tt)).ensures (gh v) r (at_exit (promised method) (lfts v) (lent v, tt) ws)) (fact 𝓤 (claims v r ws.0))) where
@@ -135,7 +135,7 @@ module _ (s : En.Declared) (fl : LL.FLaws (En.field s)) (pl : LL.Plain (En.field
           d = g x.now c
 
           abbrev h' : BitReader
-          h' = readerAt h (cursor d)
+          h' = reader_at h (cursor d)
 
           abbrev αᵉ : NamedLft
           αᵉ = record { mir = erased; lft = κ }

@@ -35,7 +35,7 @@ use denote.Triple.Clauses.{Clauses, at_exit, closing, ensured, lasts, Lasts}
 use denote.Triple.End.{Fins}
 use denote.Triple.Spec.{triple_of}
 use lib.ListN.{length}
-use Rattle.openjoc_bit_reader.specs.Reader.{readerAt}
+use Rattle.openjoc_bit_reader.specs.Reader.{reader_at}
 use Rattle.openjoc_bitio.specs.declared.BitCursor.{BitCursor}
 use Rattle.openjoc_bit_reader.specs.declared.BitReader.{BitReader}
 use Rattle.openjoc_bit_reader.proofs.Held.{α, row, mach, Own, CellAt, Lent, lfts, shares, lent as lent_at, pointer}
@@ -123,15 +123,15 @@ module _ {M : Type 1} {𝓤 : Ura M} (𝓛 : Logic 𝓤) (κ : Lft) (q : Share) 
 
       module _ (φ : (v : Lent) → (m.ρ.row (lfts v)).Denot → Type 0) (c : BitCursor)
           (says : (ν : ℕ) (γ : GName) (r : (m.ρ.row (lfts (at ν γ))).Denot) (ws : Lasts (promised m) (lfts (at ν γ)) (lent_at (at ν γ), xs (lfts (at ν γ))))
-          → ent 𝓤 ((cl (lfts (at ν γ)) (lent_at (at ν γ), xs (lfts (at ν γ)))).ensures (gh (at ν γ)) r (at_exit (promised m) (lfts (at ν γ)) (lent_at (at ν γ), xs (lfts (at ν γ))) ws)) (fact 𝓤 (φ (at ν γ) r × (ws.0 ≡ readerAt h c)))) where
+          → ent 𝓤 ((cl (lfts (at ν γ)) (lent_at (at ν γ), xs (lfts (at ν γ)))).ensures (gh (at ν γ)) r (at_exit (promised m) (lfts (at ν γ)) (lent_at (at ν γ), xs (lfts (at ν γ))) ws)) (fact 𝓤 (φ (at ν γ) r × (ws.0 ≡ reader_at h c)))) where
         pub gets : (ν : ℕ) (γ : GName) (r : (m.ρ.row (lfts (at ν γ))).Denot)
             → ent 𝓤 (⋆ 𝓛 ((‵ (flft (ν ∷ κ) (PosShare.left q)) ⊛ ‵ (flft κ (PosShare.right q)) ⊛ ‵ ftrue) ∷ raw (Said ν γ r) ∷ raw (Kept 𝓛 R κ q l ν γ) ∷ []))
-            (H.⇛ (guard 𝓤 (φ (at ν γ) r) (sep 𝓤 (sem 𝓛 (CellAt l 0 (readerAt h c))) (sep 𝓤 (sem 𝓛 (Own κ (readerAt h c))) (A.lft κ q)))))
+            (H.⇛ (guard 𝓤 (φ (at ν γ) r) (sep 𝓤 (sem 𝓛 (CellAt l 0 (reader_at h c))) (sep 𝓤 (sem 𝓛 (Own κ (reader_at h c))) (A.lft κ q)))))
         gets ν γ r =
             let v = at ν γ in
             qed 𝓛 ((‵ (flft (ν ∷ κ) (PosShare.left q)) ⊛ ‵ (flft κ (PosShare.right q)) ⊛ ‵ ftrue) ∷ raw (Said ν γ r) ∷ raw (Kept 𝓛 R κ q l ν γ) ∷ []) ∵ updating ! $
             move ! (1 ∷ []) $ use1 𝓛 (some (λ (ws : Lasts (promised m) (lfts v) (lent_at v, xs (lfts v))). ‵ (lasts (promised m) (lfts v) (lent_at v, xs (lfts v)) ws) ⊛ raw ((cl (lfts v) (lent_at v, xs (lfts v))).ensures (gh v) r (at_exit (promised m) (lfts v) (lent_at v, xs (lfts v)) ws)))) (id⊢ 𝓤 _) $ pick ! (λ ws.
-            split ! $ move ! (1 ∷ []) $ use1 𝓛 (raw (fact 𝓤 (φ v r × (ws.0 ≡ readerAt h c)))) (says ν γ r ws) $ heard ! (φ v r × (ws.0 ≡ readerAt h c)) (λ e. fsplit ! $ rewrite ! 0 (λ (g : BitReader). ‵ (fres γ (R.coded.code g))) e.1 refl $
+            split ! $ move ! (1 ∷ []) $ use1 𝓛 (raw (fact 𝓤 (φ v r × (ws.0 ≡ reader_at h c)))) (says ν γ r ws) $ heard ! (φ v r × (ws.0 ≡ reader_at h c)) (λ e. fsplit ! $ rewrite ! 0 (λ (g : BitReader). ‵ (fres γ (R.coded.code g))) e.1 refl $
             -- [the reader's last value; those of xs; the tokens; what was kept]
-            move ! (2 ∷ 0 ∷ 3 ∷ []) $ use3 𝓛 (later (‵ ((mem R).own_at (readerAt h c) l 0) ⊛ ‵ (flft κ q))) (ends 𝓛 R κ q l ν γ (readerAt h c)) $ await ! tt $ split ! $
-            use1 𝓛 (‵ (CellAt l 0 (readerAt h c)) ⊛ ‵ (Own κ (readerAt h c))) (lies_out (readerAt h c)) $ split ! $ at_once ! $ keep ! (0 ∷ 1 ∷ 2 ∷ []) $ check ! e.0 $ done !))
+            move ! (2 ∷ 0 ∷ 3 ∷ []) $ use3 𝓛 (later (‵ ((mem R).own_at (reader_at h c) l 0) ⊛ ‵ (flft κ q))) (ends 𝓛 R κ q l ν γ (reader_at h c)) $ await ! tt $ split ! $
+            use1 𝓛 (‵ (CellAt l 0 (reader_at h c)) ⊛ ‵ (Own κ (reader_at h c))) (lies_out (reader_at h c)) $ split ! $ at_once ! $ keep ! (0 ∷ 1 ∷ 2 ∷ []) $ check ! e.0 $ done !))

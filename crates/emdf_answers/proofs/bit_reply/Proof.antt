@@ -1,9 +1,9 @@
 use borrow.Author.Rules.{rules}
 use mathlib.Core.Path.{◌≡◌, refl, ap, ◌∙◌}
 use mathlib.Core.Bool.{Bool, true, false}
-use Rattle.openjoc_bitio.specs.Choice.{if◌then◌else◌}
+use Rattle.std.specs.Prelude.{if◌then◌else◌}
 use mir.Val.{bool_byte}
-use Rattle.emdf_answers.specs.Bits.{bitReply, accepted}
+use Rattle.emdf_answers.specs.Bits.{bit_reply, accepted}
 use Rattle.emdf_answers.proofs.bit_reply.Statement.{statement}
 use Rattle.emdf_answers.proofs.bit_reply.Tie as tie
 
@@ -27,11 +27,11 @@ refused-at-requires : tie.Need-refused-at-requires
 refused-at-requires c κs = search rules
 
 returns : tie.Need-returns
-unfolding bitReply
+unfolding bit_reply
 returns c = rw c.before.before.answer.given.1 (c.accepted-at.ensures ∙ ap (accepted c.before.before.answer.given.0.1.0) (byte_of c.before.before.answer.given.0.0))
 
 returns-2 : tie.Need-returns-2
-unfolding bitReply
+unfolding bit_reply
 returns-2 c = rw c.before.before.answer2.given.1 c.refused-at.ensures
 
 pub bit-reply-spec : {M : Type 1} → statement M

@@ -1,5 +1,5 @@
 use borrow.Author.Rules.{rules}
-use Rattle.emdf_answers.specs.Bits.{bitsReply}
+use Rattle.emdf_answers.specs.Bits.{bits_reply}
 use Rattle.emdf_answers.proofs.bits_reply.Statement.{statement}
 use Rattle.emdf_answers.proofs.bits_reply.Tie as tie
 
@@ -16,11 +16,11 @@ refused-at-requires : tie.Need-refused-at-requires
 refused-at-requires c κs = search rules
 
 returns : tie.Need-returns
-unfolding bitsReply
+unfolding bits_reply
 returns c = rw c.before.before.answer.given.1 c.accepted-at.ensures
 
 returns-2 : tie.Need-returns-2
-unfolding bitsReply
+unfolding bits_reply
 returns-2 c = rw c.before.before.answer2.given.1 c.refused-at.ensures
 
 pub bits-reply-spec : {M : Type 1} → statement M

@@ -4,7 +4,7 @@ use mathlib.Core.Logic.{⊎_elim}
 use native.Mathlib.Omega.{arith}
 use Rattle.openjoc_emdf.specs.declared.CarrierClassification.{CarrierClassification}
 use Rattle.openjoc_emdf.specs.declared.CarrierClassification.TheVariants as CarrierClassification
-use Rattle.emdf_answers.specs.Carriers.{classReply}
+use Rattle.emdf_answers.specs.Carriers.{class_reply}
 use Rattle.emdf_answers.proofs.class_number.Statement.{statement}
 use Rattle.emdf_answers.proofs.class_number.Tie as tie
 
@@ -18,14 +18,14 @@ figures-of-requires : tie.Need-figures-of-requires
 figures-of-requires c κs = search rules
 
 returns : tie.Need-returns
-unfolding classReply
+unfolding class_reply
 returns c = rw (c.before.before.before.class.given.1, ← c.before.refusal-of.ensures, c.figures-of.ensures)
 
 returns-2 : tie.Need-returns-2
-unfolding classReply
+unfolding class_reply
 returns-2 c = go c.before.args.class refl
   where
-    go : (x : CarrierClassification) → c.before.args.class ≡ x → 0 ≡ (classReply x).number
+    go : (x : CarrierClassification) → c.before.args.class ≡ x → 0 ≡ (class_reply x).number
     go CarrierClassification.NonEmdf h = refl
     go (CarrierClassification.Parsed p) h = refl
     go (CarrierClassification.TrailingData n len) h = refl

@@ -1,7 +1,7 @@
 use borrow.Author.Rules.{rules}
 use mathlib.Core.Path.{◌∙◌}
 use Rattle.emdf_answers.specs.Replies.{padded}
-use Rattle.emdf_answers.specs.Carriers.{classReply}
+use Rattle.emdf_answers.specs.Carriers.{class_reply}
 use Rattle.emdf_answers.proofs.class_words.Statement.{statement}
 use Rattle.emdf_answers.proofs.class_words.Tie as tie
 
@@ -39,19 +39,19 @@ with-class-requires-3 : tie.Need-with-class-requires-3
 with-class-requires-3 c κs = search rules
 
 returns : tie.Need-returns
-unfolding classReply padded
+unfolding class_reply padded
 returns c = rw c.enum_told.given.1
 
 returns-2 : tie.Need-returns-2
-unfolding classReply
+unfolding class_reply
 returns-2 c = c.with-class.ensures ∙ rw (c.before.before.before.class.given.1, c.before.parsed-words.ensures)
 
 returns-3 : tie.Need-returns-3
-unfolding classReply padded
+unfolding class_reply padded
 returns-3 c = c.with-class2.ensures ∙ rw c.before.before.class2.given.1
 
 returns-4 : tie.Need-returns-4
-unfolding classReply
+unfolding class_reply
 returns-4 c = c.with-class3.ensures ∙ rw (c.before.before.before.before.before.class3.given.1, ← c.before.before.before.refusal-of.ensures, ← c.before.before.figures-of.ensures, ← c.before.figure-words.ensures)
 
 pub class-words-spec : {M : Type 1} → statement M

@@ -1,5 +1,5 @@
 use borrow.Author.Rules.{rules}
-use Rattle.emdf_answers.specs.Edits.{editedFigures}
+use Rattle.emdf_answers.specs.Edits.{edited_figures}
 use Rattle.emdf_answers.proofs.edited_figures.Statement.{statement}
 use Rattle.emdf_answers.proofs.edited_figures.Tie as tie
 
@@ -16,11 +16,11 @@ figures-of-requires : tie.Need-figures-of-requires
 figures-of-requires c κs = search rules
 
 returns : tie.Need-returns
-unfolding editedFigures
+unfolding edited_figures
 returns c = rw c.before.edited.given.1
 
 returns-2 : tie.Need-returns-2
-unfolding editedFigures
+unfolding edited_figures
 returns-2 c = rw (c.before.before.before.edited2.given.1, ← c.before.edit-refusal.ensures) c.figures-of.ensures
 
 pub edited-figures-spec : {M : Type 1} → statement M

@@ -1,5 +1,5 @@
 use borrow.Author.Rules.{rules}
-use Rattle.emdf_answers.specs.Carriers.{moveFigures}
+use Rattle.emdf_answers.specs.Carriers.{move_figures}
 use Rattle.emdf_answers.proofs.move_figures.Statement.{statement}
 use Rattle.emdf_answers.proofs.move_figures.Tie as tie
 
@@ -16,11 +16,11 @@ figures-of-requires : tie.Need-figures-of-requires
 figures-of-requires c κs = search rules
 
 returns : tie.Need-returns
-unfolding moveFigures
+unfolding move_figures
 returns c = rw c.before.moved.given.1
 
 returns-2 : tie.Need-returns-2
-unfolding moveFigures
+unfolding move_figures
 returns-2 c = rw (c.before.before.before.moved2.given.1, ← c.before.body-refusal.ensures) c.figures-of.ensures
 
 pub move-figures-spec : {M : Type 1} → statement M

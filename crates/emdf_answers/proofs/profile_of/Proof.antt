@@ -1,10 +1,10 @@
-use Rattle.emdf_answers.specs.Verdict.{profileOf}
+use Rattle.emdf_answers.specs.Verdict.{profile_of}
 use Rattle.emdf_answers.proofs.Verdict.{compat}
 use Rattle.emdf_answers.proofs.profile_of.Statement.{statement}
 use Rattle.emdf_answers.proofs.profile_of.Tie as tie
 
 returns : tie.Need-returns
-unfolding profileOf
+unfolding profile_of
 returns c = rw c.if1.true
 
 returns-2 : tie.Need-returns-2

@@ -1,5 +1,5 @@
 use borrow.Author.Rules.{rules}
-use Rattle.emdf_answers.specs.Bits.{refusedAt}
+use Rattle.emdf_answers.specs.Bits.{refused_at}
 use Rattle.emdf_answers.proofs.refused_at.Statement.{statement}
 use Rattle.emdf_answers.proofs.refused_at.Tie as tie
 
@@ -13,7 +13,7 @@ figures-at-requires : tie.Need-figures-at-requires
 figures-at-requires c κs = search rules
 
 returns : tie.Need-returns
-unfolding refusedAt
+unfolding refused_at
 returns c = rw (← c.before.before.refusal-of.ensures, ← c.before.figures-of.ensures) c.figures-at.ensures
 
 pub refused-at-spec : {M : Type 1} → statement M

@@ -1,5 +1,5 @@
 use borrow.Author.Rules.{rules}
-use Rattle.emdf_answers.specs.Carriers.{optionalWords}
+use Rattle.emdf_answers.specs.Carriers.{optional_words}
 use Rattle.emdf_answers.proofs.value_or_zero.Statement.{statement}
 use Rattle.emdf_answers.proofs.value_or_zero.Tie as tie
 
@@ -10,11 +10,11 @@ enum-known-o : tie.Need-enum-known-o
 enum-known-o c = search rules
 
 returns : tie.Need-returns
-unfolding optionalWords
+unfolding optional_words
 returns c = rw c.enum_told.given.1
 
 returns-2 : tie.Need-returns-2
-unfolding optionalWords
+unfolding optional_words
 returns-2 c = rw c.before.o.given.1
 
 pub value-or-zero-spec : {M : Type 1} → statement M

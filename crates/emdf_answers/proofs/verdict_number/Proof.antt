@@ -1,5 +1,5 @@
 use borrow.Author.Rules.{rules}
-use Rattle.emdf_answers.specs.Verdict.{verdictReply}
+use Rattle.emdf_answers.specs.Verdict.{verdict_reply}
 use Rattle.emdf_answers.proofs.verdict_number.Statement.{statement}
 use Rattle.emdf_answers.proofs.verdict_number.Tie as tie
 
@@ -16,11 +16,11 @@ figures-of-requires : tie.Need-figures-of-requires
 figures-of-requires c κs = search rules
 
 returns : tie.Need-returns
-unfolding verdictReply
+unfolding verdict_reply
 returns c = rw c.enum_told.given.1
 
 returns-2 : tie.Need-returns-2
-unfolding verdictReply
+unfolding verdict_reply
 returns-2 c = rw (c.before.before.before.judged.given.1, ← c.before.profile-refusal.ensures, c.figures-of.ensures)
 
 pub verdict-number-spec : {M : Type 1} → statement M

@@ -1,5 +1,5 @@
 use borrow.Author.Rules.{rules}
-use Rattle.emdf_answers.specs.Verdict.{verdictReply}
+use Rattle.emdf_answers.specs.Verdict.{verdict_reply}
 use Rattle.emdf_answers.specs.Replies.{padded}
 use Rattle.emdf_answers.proofs.verdict_words.Statement.{statement}
 use Rattle.emdf_answers.proofs.verdict_words.Tie as tie
@@ -23,11 +23,11 @@ figures-of-requires : tie.Need-figures-of-requires
 figures-of-requires c κs = search rules
 
 returns : tie.Need-returns
-unfolding verdictReply
+unfolding verdict_reply
 returns c = rw (c.before.before.before.judged.given.1, c.status-word.ensures)
 
 returns-2 : tie.Need-returns-2
-unfolding verdictReply padded
+unfolding verdict_reply padded
 returns-2 c = rw (c.before.before.before.judged2.given.1, ← c.before.profile-refusal.ensures, c.figures-of.ensures)
 
 pub verdict-words-spec : {M : Type 1} → statement M

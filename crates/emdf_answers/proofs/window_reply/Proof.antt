@@ -1,5 +1,5 @@
 use borrow.Author.Rules.{rules}
-use Rattle.emdf_answers.specs.Bits.{windowReply}
+use Rattle.emdf_answers.specs.Bits.{window_reply}
 use Rattle.emdf_answers.proofs.window_reply.Statement.{statement}
 use Rattle.emdf_answers.proofs.window_reply.Tie as tie
 
@@ -13,11 +13,11 @@ refused-at-requires : tie.Need-refused-at-requires
 refused-at-requires c κs = search rules
 
 returns : tie.Need-returns
-unfolding windowReply
+unfolding window_reply
 returns c = rw c.before.answer.given.1
 
 returns-2 : tie.Need-returns-2
-unfolding windowReply
+unfolding window_reply
 returns-2 c = rw c.before.before.answer2.given.1 c.refused-at.ensures
 
 pub window-reply-spec : {M : Type 1} → statement M

@@ -4,19 +4,19 @@ use mathlib.Core.Bool.{true}
 use Prim.Native.Nat.{◌+◌}
 use native.Mathlib.Omega.{arith}
 use lib.Seq.{length-take-le}
-use Rattle.emdf_format.specs.Edits.{carrierLength}
+use Rattle.emdf_format.specs.Edits.{carrier_length}
 use Rattle.emdf_format.proofs.Standing.{fails, holds}
-use Rattle.emdf_measure.specs.Parts.{writableProtection}
-use Rattle.emdf_format.specs.Edits.{blankContents}
+use Rattle.emdf_measure.specs.Parts.{writable_protection}
+use Rattle.emdf_format.specs.Edits.{blank_contents}
 use Rattle.emdf_blank.proofs.Blank.{writable-short, not-writable, no_room, in-room}
 use Rattle.emdf_field_writer.proofs.Written.{front-written}
 use Rattle.emdf_blank.proofs.blank_carrier.Statement.{statement}
 use Rattle.emdf_blank.proofs.blank_carrier.Tie as tie
 
-ok : (c : tie.Else1) → let a = c.before.before.before.before.before.args in writableProtection a.primary.now a.secondary.now ≡ true
+ok : (c : tie.Else1) → let a = c.before.before.before.before.before.args in writable_protection a.primary.now a.secondary.now ≡ true
 ok c = holds c.if1.false c.before.writable-protection.ensures
 
-size : (c : tie.After-blank-declared) → let a = c.before.before.before.before.before.before.args in 4 + c.blank-declared.result.0 ≡ carrierLength (blankContents a.key a.primary.now a.secondary.now)
+size : (c : tie.After-blank-declared) → let a = c.before.before.before.before.before.before.args in 4 + c.blank-declared.result.0 ≡ carrier_length (blank_contents a.key a.primary.now a.secondary.now)
 size c = omega (arith, c.blank-declared.ensures.0)
 
 writable-protection-requires : tie.Need-writable-protection-requires

@@ -2,7 +2,7 @@ use borrow.Author.Rules.{rules}
 use Prim.Native.Nat.{◌≤◌}
 use native.Mathlib.Omega.{arith}
 use lib.Dec.{lit<}
-use Rattle.emdf_format.specs.Contents.{declared, neededBits, neededPayloads}
+use Rattle.emdf_format.specs.Contents.{declared, needed_bits, needed_payloads}
 use Rattle.emdf_measure.proofs.Asked.{extension-few}
 use Rattle.emdf_blank.proofs.blank_declared.Statement.{statement}
 use Rattle.emdf_blank.proofs.blank_declared.Tie as tie
@@ -32,7 +32,7 @@ add-t5 : tie.Need-overflow-add-t5
 add-t5 c = omega (arith, few c)
 
 returns : tie.Need-returns
-unfolding declared neededBits neededPayloads
+unfolding declared needed_bits needed_payloads
 returns c = omega (arith, c.key-bits.ensures, few c)
 
 pub blank-declared-spec : {M : Type 1} → statement M

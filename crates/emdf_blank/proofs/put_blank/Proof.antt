@@ -3,8 +3,8 @@ use Prim.Native.Nat.{◌+◌, ◌-◌, ◌*◌, ◌<◌, ◌≤◌}
 use native.Mathlib.Omega.{arith}
 use lib.ListN.{length}
 use Rattle.openjoc_bitio.proofs.Bits.{length-number}
-use Rattle.emdf_format.specs.Contents.{protectionBits}
-use Rattle.emdf_field_writer.specs.Fields.{headerBits}
+use Rattle.emdf_format.specs.Contents.{protection_bits}
+use Rattle.emdf_field_writer.specs.Fields.{header_bits}
 use Rattle.emdf_field_writer.proofs.Putting.{then-put}
 use Rattle.emdf_blank.proofs.Blank.{blank-size, blank-bits}
 use Rattle.emdf_blank.proofs.put_blank.Statement.{statement}
@@ -21,7 +21,7 @@ abbrev mark : tie.After-put-protection → tie.After-put-field
 mark c = c.before.before.before.before
 
 -- what is put before the padding ends less than a byte before the carrier does
-sizes : (k : tie.Start) → let a = k.args in let n = length (headerBits a.size.0 a.key) + 5 + length (protectionBits a.primary.now a.secondary.now) in
+sizes : (k : tie.Start) → let a = k.args in let n = length (header_bits a.size.0 a.key) + 5 + length (protection_bits a.primary.now a.secondary.now) in
     (n ≤ (4 + a.size.0) * 8) × ((4 + a.size.0) * 8 < n + 8)
 sizes k = blank-size k.args.key _ _ k.args.size.0 k.requires.0
 

@@ -1,5 +1,5 @@
 use borrow.Author.Rules.{rules}
-use Rattle.emdf_compact.specs.Words.{codecSpan, compactConfig}
+use Rattle.emdf_compact.specs.Words.{codec_span, compact_config}
 use Rattle.emdf_compact.proofs.compact_config.Statement.{statement}
 use Rattle.emdf_compact.proofs.compact_config.Tie as tie
 
@@ -43,7 +43,7 @@ compact-controls-requires : tie.Need-compact-controls-requires
 compact-controls-requires c κs = search rules
 
 returns : tie.Need-returns
-unfolding codecSpan compactConfig
+unfolding codec_span compact_config
 returns c = simp (c.compact-controls.ensures, c.before.variable-value.ensures, c.before.before.flagged-value2.ensures, c.before.before.before.flagged-value.ensures, c.before.before.before.before.variable-span.ensures.0, c.before.before.before.before.before.flagged-span2.ensures.0, c.before.before.before.before.before.before.flagged-span.ensures.0)
 
 pub compact-config-spec : {M : Type 1} → statement M

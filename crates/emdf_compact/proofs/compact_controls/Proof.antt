@@ -1,5 +1,5 @@
 use borrow.Author.Rules.{rules}
-use Rattle.emdf_compact.specs.Words.{compactControls}
+use Rattle.emdf_compact.specs.Words.{compact_controls}
 use Rattle.emdf_compact.proofs.compact_controls.Statement.{statement}
 use Rattle.emdf_compact.proofs.compact_controls.Tie as tie
 
@@ -40,7 +40,7 @@ present-value-requires-5 : tie.Need-present-value-requires-5
 present-value-requires-5 c κs = search rules
 
 returns : tie.Need-returns
-unfolding compactControls
+unfolding compact_controls
 returns c = simp (c.present-value5.ensures, c.before.present-value4.ensures, c.before.before.has-priority.ensures, c.before.before.before.present-span2.ensures.0, c.before.before.before.before.present-value3.ensures, c.before.before.before.before.before.present-value2.ensures, c.before.before.before.before.before.before.is_one.ensures, c.before.before.before.before.before.before.before.present-span.ensures.0, c.before.before.before.before.before.before.before.before.present-value.ensures, c.before.before.before.before.before.before.before.before.before.has-aligned.ensures)
 
 pub compact-controls-spec : {M : Type 1} → statement M

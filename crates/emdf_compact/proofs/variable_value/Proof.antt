@@ -5,7 +5,7 @@ use Prim.Native.Nat.{ℕ, ◌+◌, ◌^◌, ◌≤◌, ◌<◌}
 use native.Mathlib.Nat.{mod-lt}
 use lib.Pow.{pow_pos, pow_mono}
 use Rattle.emdf_fields.specs.Word.{top, after}
-use Rattle.emdf_compact.specs.Words.{variableValue}
+use Rattle.emdf_compact.specs.Words.{variable_value}
 use Rattle.emdf_compact.proofs.Words.{last_bit, top-few, second-start}
 use Rattle.emdf_compact.proofs.variable_value.Statement.{statement}
 use Rattle.emdf_compact.proofs.variable_value.Tie as tie
@@ -15,7 +15,7 @@ group-few : (w n x : ℕ) → w ≤ 11 → (top w (after n x) < 2 ^ w) × (2 ^ w
 group-few w n x h = (top-few w (after n x) (omega arith) (mod-lt _ (pow_pos 64)), pow_mono h)
 
 returns : tie.Need-returns
-unfolding variableValue
+unfolding variable_value
 returns c = rw (eq-eqb _ 0 c.if1.true)
 
 sub-first : tie.Need-overflow-sub-first
@@ -31,7 +31,7 @@ shr-if2 : tie.Need-overflow-shr-if2
 shr-if2 c = search rules
 
 returns-2 : tie.Need-returns-2
-unfolding variableValue
+unfolding variable_value
 returns-2 c = rw (ne_eqb _ 0 c.before.if1.false, last_bit, eq-eqb _ 0 c.if2.true)
 
 add-second : tie.Need-overflow-add-second
@@ -59,7 +59,7 @@ add-t7 c =
     omega (arith, second-start a.w (top a.w (after 1 a.x)) (omega arith) f.0, group-few a.w (a.w + 2) a.x (omega arith))
 
 returns-3 : tie.Need-returns-3
-unfolding variableValue
+unfolding variable_value
 returns-3 c =
     let a = c.before.before.args in
     let s = second-start a.w (top a.w (after 1 a.x)) (omega arith) (group-few a.w 1 a.x (omega arith)).0 in

@@ -2,7 +2,7 @@ use borrow.Author.Rules.{rules}
 use Prim.Native.Nat.{◌≤◌, ◌<◌}
 use mathlib.Core.Path.{◌≡◌, sym, ◌∙◌}
 use native.Mathlib.Omega.{arith}
-use Rattle.openjoc_bitio.specs.Cursor.{bitsRemaining}
+use Rattle.openjoc_bitio.specs.Cursor.{bits_remaining}
 use Rattle.openjoc_bitio.proofs.Cursor.{remaining-end}
 use Rattle.emdf_container.proofs.Octets.{pad-excess, pad-nonzero, pad-fine, rest-value}
 use Rattle.emdf_container.proofs.check_padding.Statement.{statement}
@@ -17,8 +17,8 @@ returns c =
     let s = a.s.now in
     let e = a.c.end in
     let p = a.c.position in
-    let h : c.before.bits-remaining.result ≡ bitsRemaining s a.c = c.before.bits-remaining.ensures in
-    let l : 7 < bitsRemaining s a.c = omega arith in
+    let h : c.before.bits-remaining.result ≡ bits_remaining s a.c = c.before.bits-remaining.ensures in
+    let l : 7 < bits_remaining s a.c = omega arith in
     rw h (pad-excess s e p l)
 
 add-position : tie.Need-overflow-add-position
@@ -33,8 +33,8 @@ returns-2 c =
     let s = a.s.now in
     let e = a.c.end in
     let p = a.c.position in
-    let h : c.before.before.before.before.bits-remaining.result ≡ bitsRemaining s a.c = c.before.before.before.before.bits-remaining.ensures in
-    let l : bitsRemaining s a.c ≤ 7 = omega arith in
+    let h : c.before.before.before.before.bits-remaining.result ≡ bits_remaining s a.c = c.before.before.before.before.bits-remaining.ensures in
+    let l : bits_remaining s a.c ≤ 7 = omega arith in
     rw h (pad-nonzero s e p l (λ z. c.if2.true (c.before.value-at.ensures ∙ rest-value s a.c h ∙ z)))
 
 returns-3 : tie.Need-returns-3
@@ -43,8 +43,8 @@ returns-3 c =
     let s = a.s.now in
     let e = a.c.end in
     let p = a.c.position in
-    let h : c.before.before.before.before.bits-remaining.result ≡ bitsRemaining s a.c = c.before.before.before.before.bits-remaining.ensures in
-    let l : bitsRemaining s a.c ≤ 7 = omega arith in
+    let h : c.before.before.before.before.bits-remaining.result ≡ bits_remaining s a.c = c.before.before.before.before.bits-remaining.ensures in
+    let l : bits_remaining s a.c ≤ 7 = omega arith in
     rw h (pad-fine s e p l (sym (rest-value s a.c h) ∙ sym c.before.value-at.ensures ∙ c.if2.false))
 
 pub check-padding-spec : {M : Type 1} → statement M

@@ -5,7 +5,7 @@ use borrow.Author.Tests.{eq-eqb, ne_eqb}
 use Rattle.emdf_format.proofs.Standing.{T_of, T-not-of}
 use Rattle.emdf_format.specs.Syntax.{escape}
 use Rattle.emdf_format.specs.Reading.{container}
-use Rattle.emdf_container.specs.Container.{containerAfter, containerAnswer}
+use Rattle.emdf_container.specs.Container.{container_after, container_answer}
 use Rattle.emdf_container.specs.declared.ContainerAnswer.TheVariants.{Refused}
 use Rattle.emdf_fields.proofs.Answers.{field_found, via, yes, no_more, by_field}
 use Rattle.emdf_container.proofs.Ends.{container-refuses}
@@ -26,12 +26,12 @@ field-error-requires : tie.Need-field-error-requires
 field-error-requires c κs = search rules
 
 returns : tie.Need-returns
-unfolding container containerAnswer
-returns c = by_field containerAnswer Refused container-refuses _ _ _ _ _ c.before.before.before.extended-value.ensures c.before.enum_told.given.1 c.field-error.ensures
+unfolding container container_answer
+returns c = by_field container_answer Refused container-refuses _ _ _ _ _ c.before.before.before.extended-value.ensures c.before.enum_told.given.1 c.field-error.ensures
 
 returns-2 : tie.Need-returns-2
-unfolding container containerAnswer
-returns-2 c = via containerAnswer _ _ _ _ _ (field_found _ (sym c.before.before.before.before.extended-value.ensures ∙ c.before.before.a1.given.1)) (no_more containerAnswer _ _ _ _ _ _ (T-not-of (ne_eqb _ _ c.if1.true)) refl)
+unfolding container container_answer
+returns-2 c = via container_answer _ _ _ _ _ (field_found _ (sym c.before.before.before.before.extended-value.ensures ∙ c.before.before.a1.given.1)) (no_more container_answer _ _ _ _ _ _ (T-not-of (ne_eqb _ _ c.if1.true)) refl)
 
 extended-value-requires-2 : tie.Need-extended-value-requires-2
 unfolding escape
@@ -47,15 +47,15 @@ field-error-requires-2 : tie.Need-field-error-requires-2
 field-error-requires-2 c κs = search rules
 
 returns-3 : tie.Need-returns-3
-unfolding container containerAnswer
-returns-3 c = via containerAnswer _ _ _ _ _ (field_found _ (sym c.before.before.before.before.before.before.before.before.extended-value.ensures ∙ c.before.before.before.before.before.before.a1.given.1)) (yes containerAnswer _ _ _ _ _ _ (T_of (eq-eqb _ _ c.before.before.before.before.if1.false)) (by_field containerAnswer Refused container-refuses _ _ _ _ _ c.before.before.before.extended-value2.ensures c.before.enum-told2.given.1 c.field-error2.ensures))
+unfolding container container_answer
+returns-3 c = via container_answer _ _ _ _ _ (field_found _ (sym c.before.before.before.before.before.before.before.before.extended-value.ensures ∙ c.before.before.before.before.before.before.a1.given.1)) (yes container_answer _ _ _ _ _ _ (T_of (eq-eqb _ _ c.before.before.before.before.if1.false)) (by_field container_answer Refused container-refuses _ _ _ _ _ c.before.before.before.extended-value2.ensures c.before.enum-told2.given.1 c.field-error2.ensures))
 
 parse-payloads-requires : tie.Need-parse-payloads-requires
 parse-payloads-requires c κs = search rules
 
 returns-4 : tie.Need-returns-4
-unfolding container containerAfter containerAnswer
-returns-4 c = via containerAnswer _ _ _ _ _ (field_found _ (sym c.before.before.before.before.before.before.before.before.before.extended-value.ensures ∙ c.before.before.before.before.before.before.before.a1.given.1)) (yes containerAnswer _ _ _ _ _ _ (T_of (eq-eqb _ _ c.before.before.before.before.before.if1.false)) (via containerAnswer _ _ _ _ _ (field_found _ (sym c.before.before.before.before.extended-value2.ensures ∙ c.before.before.a2.given.1)) c.parse-payloads.ensures))
+unfolding container container_after container_answer
+returns-4 c = via container_answer _ _ _ _ _ (field_found _ (sym c.before.before.before.before.before.before.before.before.before.extended-value.ensures ∙ c.before.before.before.before.before.before.before.a1.given.1)) (yes container_answer _ _ _ _ _ _ (T_of (eq-eqb _ _ c.before.before.before.before.before.if1.false)) (via container_answer _ _ _ _ _ (field_found _ (sym c.before.before.before.before.extended-value2.ensures ∙ c.before.before.a2.given.1)) c.parse-payloads.ensures))
 
 pub container-by-fields-spec : {M : Type 1} → statement M
 container-by-fields-spec =

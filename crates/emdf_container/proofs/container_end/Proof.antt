@@ -3,9 +3,9 @@ use Prim.Native.Nat.{◌+◌, ◌^◌, ◌<◌}
 use mathlib.Core.Path.{refl}
 use native.Mathlib.Omega.{arith}
 use Rattle.openjoc_bitio.proofs.Cursor.{remaining-end}
-use Rattle.emdf_format.specs.Groups.{largestGroups}
+use Rattle.emdf_format.specs.Groups.{largest_groups_of}
 use Rattle.emdf_format.proofs.Standing.{holds}
-use Rattle.emdf_container.specs.Container.{containerOf, containerAnswer}
+use Rattle.emdf_container.specs.Container.{container_of, container_answer}
 use Rattle.emdf_container.proofs.Ends.{short-protection}
 use Rattle.emdf_container.proofs.Words.{end_fits, fits_word, end-found}
 use Rattle.emdf_container.proofs.container_end.Statement.{statement}
@@ -54,7 +54,7 @@ protection-at-requires-2 : tie.Need-protection-at-requires-2
 protection-at-requires-2 c κs = (fits_word _ c.before.before.before.protection-length2.ensures, omega (arith, end_fits _ c.before.before.before.before.before.before.before.before.args.c c.before.before.before.before.before.before.bits-remaining.ensures (c.before.before.is-end.ensures (holds c.before.if1.false refl))))
 
 returns-2 : tie.Need-returns-2
-unfolding containerAnswer containerOf largestGroups
+unfolding container_answer container_of largest_groups_of
 returns-2 c =
     let a = c.before.before.before.before.before.before.before.before.before.args in
     let d = c.before.before.before.is-end.ensures (holds c.before.before.if1.false refl) in

@@ -2,9 +2,9 @@ use borrow.Author.Rules.{rules}
 use mathlib.Core.Path.{sym, ap, ◌∙◌}
 use Prim.Native.Nat.{ℕ, ◌/◌, ◌^◌, ◌≤◌}
 use native.Mathlib.Omega.{arith}
-use Rattle.openjoc_bitio.specs.Cursor.{bitsRemaining}
+use Rattle.openjoc_bitio.specs.Cursor.{bits_remaining}
 use Rattle.openjoc_bitio.proofs.Cursor.{remaining-end}
-use Rattle.emdf_container.specs.Container.{containerAnswer}
+use Rattle.emdf_container.specs.Container.{container_answer}
 use Rattle.emdf_container.proofs.Words.{header-found}
 use Rattle.emdf_container.proofs.parse_container.Statement.{statement}
 use Rattle.emdf_container.proofs.parse_container.Tie as tie
@@ -27,8 +27,8 @@ returns : tie.Need-returns
 returns c =
     let a = c.before.before.before.before.before.before.args in
     let s = a.s.now in
-    let r : 5 ≤ bitsRemaining s a.c = omega (arith, c.before.before.bits-remaining.ensures) in
-    c.parse-payloads.ensures ∙ ap (containerAnswer a.c.end) (sym (header-found s a.c.end a.c.position (ap (λ (x : ℕ). x / 2 ^ 59) c.before.before.before.before.window-at.ensures) c.before.before.before.if1.true r))
+    let r : 5 ≤ bits_remaining s a.c = omega (arith, c.before.before.bits-remaining.ensures) in
+    c.parse-payloads.ensures ∙ ap (container_answer a.c.end) (sym (header-found s a.c.end a.c.position (ap (λ (x : ℕ). x / 2 ^ 59) c.before.before.before.before.window-at.ensures) c.before.before.before.if1.true r))
 
 container-by-fields-requires : tie.Need-container-by-fields-requires
 container-by-fields-requires c κs = search rules

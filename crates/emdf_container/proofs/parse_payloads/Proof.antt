@@ -1,7 +1,7 @@
 use borrow.Author.Rules.{rules}
 use mathlib.Core.Path.{refl, sym, ◌∙◌}
 use native.Mathlib.Omega.{arith}
-use Rattle.emdf_container.specs.Container.{containerAfter, containerAnswer}
+use Rattle.emdf_container.specs.Container.{container_after, container_answer}
 use Rattle.emdf_container.specs.declared.ContainerAnswer.TheVariants.{Refused}
 use Rattle.emdf_format.specs.Syntax.{escape}
 use Rattle.emdf_fields.proofs.Answers.{via}
@@ -23,8 +23,8 @@ list-error-requires : tie.Need-list-error-requires
 list-error-requires c κs = search rules
 
 returns : tie.Need-returns
-unfolding containerAfter containerAnswer
-returns c = left containerAnswer _ _ _ _ (by-list containerAnswer Refused container-refuses _ _ _ _ _ c.before.before.before.count-payloads.ensures c.before.enum_told.given.1 c.list-error.ensures)
+unfolding container_after container_answer
+returns c = left container_answer _ _ _ _ (by-list container_answer Refused container-refuses _ _ _ _ _ c.before.before.before.count-payloads.ensures c.before.enum_told.given.1 c.list-error.ensures)
 
 extended-groups-requires : tie.Need-extended-groups-requires
 unfolding escape
@@ -37,12 +37,12 @@ container-end-requires : tie.Need-container-end-requires
 container-end-requires c κs = search rules
 
 returns-2 : tie.Need-returns-2
-unfolding containerAfter containerAnswer
+unfolding container_after container_answer
 returns-2 c =
     let l = c.before in
     let e = l.before in
     let d = list-found _ _ (sym e.before.before.before.before.count-payloads.ensures ∙ e.before.before.a.given.1) in
-    left containerAnswer _ _ _ _ (via containerAnswer _ _ _ _ _ d.3 (c.container-end.ensures d.0 d.1 (rw (l.larger.ensures, e.extended-groups.ensures, d.2))))
+    left container_answer _ _ _ _ (via container_answer _ _ _ _ _ d.3 (c.container-end.ensures d.0 d.1 (rw (l.larger.ensures, e.extended-groups.ensures, d.2))))
 
 pub parse-payloads-spec : {M : Type 1} → statement M
 parse-payloads-spec =

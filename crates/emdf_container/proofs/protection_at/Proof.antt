@@ -2,7 +2,7 @@ use borrow.Author.Rules.{rules}
 use Prim.Native.Nat.{◌-◌, ◌*◌, ◌≤◌}
 use mathlib.Core.Path.{◌≡◌, sym, ap, ◌∙◌}
 use native.Mathlib.Omega.{arith}
-use Rattle.openjoc_bitio.specs.Bits.{bitsValue}
+use Rattle.openjoc_bitio.specs.Bits.{bits_value}
 use Rattle.openjoc_bitio.proofs.Bits.{value_none}
 use Rattle.emdf_container.proofs.Octets.{long-is, short-is}
 use Rattle.emdf_container.proofs.Words.{shifted}
@@ -25,7 +25,7 @@ returns-2 : tie.Need-returns-2
 returns-2 c =
     let a = c.before.before.before.args in
     let z : 0 ≡ 8 * a.n = omega arith in
-    short-is _ _ _ (omega arith) (sym (value_none a.s.now a.p) ∙ ap (bitsValue a.s.now a.p) z)
+    short-is _ _ _ (omega arith) (sym (value_none a.s.now a.p) ∙ ap (bits_value a.s.now a.p) z)
 
 window-at-requires : tie.Need-window-at-requires
 window-at-requires c κs = search rules

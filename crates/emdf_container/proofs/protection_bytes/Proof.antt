@@ -2,10 +2,10 @@ use borrow.Author.Rules.{rules}
 use Prim.Native.Nat.{◌-◌}
 use mathlib.Core.Path.{◌≡◌, sym, ap, ◌∙◌}
 use native.Mathlib.Omega.{arith}
-use Rattle.openjoc_bitio.specs.Cursor.{bitsRemaining}
+use Rattle.openjoc_bitio.specs.Cursor.{bits_remaining}
 use Rattle.openjoc_bitio.proofs.Cursor.{remaining-end}
-use Rattle.emdf_format.proofs.Standing.{bitLimit, remaining-limit}
-use Rattle.emdf_container.specs.Container.{bytesAnswer}
+use Rattle.emdf_format.proofs.Standing.{bit_limit, remaining-limit}
+use Rattle.emdf_container.specs.Container.{bytes_answer}
 use Rattle.emdf_container.specs.declared.BytesAnswer.TheVariants.{Refused}
 use Rattle.emdf_fields.proofs.Answers.{count-ended}
 use Rattle.emdf_fields.proofs.Octets.{passed}
@@ -26,7 +26,7 @@ count-error-requires : tie.Need-count-error-requires
 count-error-requires c κs = search rules
 
 returns : tie.Need-returns
-unfolding bytesAnswer
+unfolding bytes_answer
 returns c =
     let d = count-ended _ _ (sym c.before.before.before.skip-octets.ensures ∙ c.before.enum_told.given.1) in
     rw d.1 (ap Refused (rw c.before.enum_told.given.1 at c.count-error.ensures))
@@ -44,7 +44,7 @@ add-position c =
     let e = a.c.end in
     let p = a.c.position in
     let d = passed s e p a.n (sym c.before.before.before.before.before.skip-octets.ensures ∙ c.before.before.before.a.given.1) in
-    let l : bitsRemaining s a.c ≡ bitLimit s e - p = remaining-limit s e p in
+    let l : bits_remaining s a.c ≡ bit_limit s e - p = remaining-limit s e p in
     omega (arith, d.room, c.before.above-eight.ensures, remaining-end s a.c)
 
 mul-value-at : tie.Need-overflow-mul-value-at

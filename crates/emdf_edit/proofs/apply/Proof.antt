@@ -4,7 +4,7 @@ use Prim.Native.Nat.{◌+◌, ◌≤◌}
 use native.Mathlib.Omega.{arith}
 use lib.ListN.{length}
 use lib.Seq.{length-take-le}
-use Rattle.emdf_request.specs.Requests.{newBits}
+use Rattle.emdf_request.specs.Requests.{new_bits}
 use Rattle.emdf_edit.specs.Cuts.{Within}
 use Rattle.emdf_plan.proofs.Spliced.{Spliceable, plan-splice}
 use Rattle.emdf_edit.proofs.Edited.{refused, within, room, spliced-answer}
@@ -18,7 +18,7 @@ planned : (c : tie.After-plan) → let k = start c in Spliceable k.args.request 
 planned c = plan-splice _ _ _ _ _ _ (λ k. (c.before.before.before.before.before.before.shared-slice-known.given k).fits) (sym c.before.before.plan-edit.ensures ∙ c.plan.given.1)
 
 -- the carrier fits into the destination, and the cut lies in the source
-ready : (c : tie.After-plan) → let k = start c in (4 + c.plan.given.0.0.size.0 ≤ length k.args.destination.now) × Within k.args.source.now c.plan.given.0.0 (newBits k.args.request k.args.octets.now k.args.secondary.now)
+ready : (c : tie.After-plan) → let k = start c in (4 + c.plan.given.0.0.size.0 ≤ length k.args.destination.now) × Within k.args.source.now c.plan.given.0.0 (new_bits k.args.request k.args.octets.now k.args.secondary.now)
 ready c = let k = start c in let p = planned c in (room _ _ _ _ k.args.destination.now p, within _ _ _ _ k.args.destination.now p)
 
 plan-edit-requires : tie.Need-plan-edit-requires

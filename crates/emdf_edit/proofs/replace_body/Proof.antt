@@ -1,5 +1,5 @@
 use borrow.Author.Rules.{rules}
-use Rattle.emdf_request.specs.Requests.{editOf}
+use Rattle.emdf_request.specs.Requests.{edit_of}
 use Rattle.emdf_edit.proofs.replace_body.Statement.{statement}
 use Rattle.emdf_edit.proofs.replace_body.Tie as tie
 
@@ -13,7 +13,7 @@ same_length : tie.Need-same-length
 same_length c = search rules
 
 returns : tie.Need-returns
-unfolding editOf
+unfolding edit_of
 returns c = c.before.before.apply.ensures
 
 pub replace-body-spec : {M : Type 1} → statement M

@@ -1,7 +1,7 @@
 use borrow.Author.Rules.{rules}
 use Rattle.emdf_format.specs.Syntax.{◌⨟◌}
-use Rattle.emdf_format.specs.Contents.{codecDataBits}
-use Rattle.emdf_field_writer.specs.Fields.{Room, controlsBits}
+use Rattle.emdf_format.specs.Contents.{codec_data_bits}
+use Rattle.emdf_field_writer.specs.Fields.{Room, controls_bits}
 use Rattle.emdf_field_writer.proofs.Putting.{room-same, room-first, room_next, then-put}
 use Rattle.emdf_field_writer.proofs.Settings.{config-parts}
 use Rattle.emdf_field_writer.proofs.put_config.Statement.{statement}
@@ -9,7 +9,7 @@ use Rattle.emdf_field_writer.proofs.put_config.Tie as tie
 
 -- the room left for the codec flag and the settings after it
 after-timing : (c : tie.After-put-timing) → let t = c.before.before.before.args.t in
-    Room c.put-timing.new.0 c.put-timing.result.0 (codecDataBits t.codec_data_present ⨟ controlsBits t)
+    Room c.put-timing.new.0 c.put-timing.result.0 (codec_data_bits t.codec_data_present ⨟ controls_bits t)
 after-timing c = room_next _ _ _ _ _ (room-same _ (config-parts _) c.before.before.before.requires) c.put-timing.ensures c.put-timing.auto.0
 
 put-timing-requires : tie.Need-put-timing-requires

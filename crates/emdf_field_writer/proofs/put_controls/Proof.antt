@@ -2,30 +2,30 @@ use borrow.Author.Rules.{rules}
 use mathlib.Core.List.{List}
 use Prim.Native.Nat.{ℕ}
 use native.Mathlib.Omega.{arith}
-use Rattle.openjoc_bitio.specs.Bits.{numberBits}
+use Rattle.openjoc_bitio.specs.Bits.{number_bits}
 use Rattle.emdf_format.specs.declared.EmdfPayloadConfig.{EmdfPayloadConfig}
-use Rattle.emdf_format.specs.Syntax.{◌⨟◌, presentField}
-use Rattle.emdf_field_writer.specs.Fields.{Room, controlsBits}
+use Rattle.emdf_format.specs.Syntax.{◌⨟◌, present_field}
+use Rattle.emdf_field_writer.specs.Fields.{Room, controls_bits}
 use Rattle.emdf_field_writer.proofs.Putting.{room-first, room_next, then-put}
 use Rattle.emdf_field_writer.proofs.put_controls.Statement.{statement}
 use Rattle.emdf_field_writer.proofs.put_controls.Tie as tie
 
 -- what is still to come after the flag, and after each setting
 abbrev after-remove : EmdfPayloadConfig → List ℕ
-after-remove t = presentField (numberBits 5) t.priority ⨟ presentField (numberBits 2) t.processing_allowed
+after-remove t = present_field (number_bits 5) t.priority ⨟ present_field (number_bits 2) t.processing_allowed
 
 abbrev after-create : EmdfPayloadConfig → List ℕ
-after-create t = presentField (numberBits 1) t.remove_duplicate ⨟ after-remove t
+after-create t = present_field (number_bits 1) t.remove_duplicate ⨟ after-remove t
 
 abbrev after-aligned : EmdfPayloadConfig → List ℕ
-after-aligned t = presentField (numberBits 1) t.create_duplicate ⨟ after-create t
+after-aligned t = present_field (number_bits 1) t.create_duplicate ⨟ after-create t
 
 abbrev after-discard : EmdfPayloadConfig → List ℕ
-after-discard t = presentField (numberBits 1) t.payload_frame_aligned ⨟ after-aligned t
+after-discard t = present_field (number_bits 1) t.payload_frame_aligned ⨟ after-aligned t
 
 -- the room for it
 room-discard : (c : tie.After-put-field) → Room c.put-field.new.0 c.put-field.result.0 (after-discard c.before.before.before.args.t)
-unfolding controlsBits
+unfolding controls_bits
 room-discard c = room_next _ _ _ _ _ c.before.before.before.requires c.put-field.ensures c.put-field.auto.0
 
 room-aligned : (c : tie.After-put-present) → Room c.put-present.new.0 c.put-present.result.0 (after-aligned c.before.before.before.before.before.before.before.args.t)
@@ -38,7 +38,7 @@ room-remove : (c : tie.After-put-present3) → Room c.put-present3.new.0 c.put-p
 room-remove c = room_next _ _ _ _ _ (room-create c.before.before.before.before) c.put-present3.ensures c.put-present3.auto.0
 
 put-field-requires : tie.Need-put-field-requires
-unfolding controlsBits
+unfolding controls_bits
 put-field-requires c κs = (omega arith, room-first _ _ _ c.before.before.requires)
 
 put-present-requires : tie.Need-put-present-requires
@@ -62,7 +62,7 @@ same_length : tie.Need-same-length
 same_length c = search rules
 
 returns : tie.Need-returns
-unfolding controlsBits
+unfolding controls_bits
 returns c =
     let priority = c.before.before.before.before.before.before in
     let remove = priority.before.before.before.before in

@@ -1,6 +1,6 @@
 use borrow.Author.Rules.{rules}
 use native.Mathlib.Omega.{arith}
-use Rattle.emdf_format.specs.Syntax.{variableField}
+use Rattle.emdf_format.specs.Syntax.{variable_field}
 use Rattle.emdf_field_writer.proofs.Putting.{room-same, room-first, room_next, then-put}
 use Rattle.emdf_field_writer.proofs.Settings.{flag-clear, variable-set}
 use Rattle.emdf_field_writer.proofs.put_flagged.Statement.{statement}
@@ -12,7 +12,7 @@ enum_told c = search rules
 put-field-requires : tie.Need-put-field-requires
 put-field-requires c κs =
     let a = c.before.before.before.before in
-    (omega arith, room-same _ (flag-clear (variableField a.args.width) c.before.enum_told.given.1) a.requires.2)
+    (omega arith, room-same _ (flag-clear (variable_field a.args.width) c.before.enum_told.given.1) a.requires.2)
 
 enum-known-o : tie.Need-enum-known-o
 enum-known-o c = search rules
@@ -31,7 +31,7 @@ same_length : tie.Need-same-length
 same_length c = search rules
 
 returns : tie.Need-returns
-returns c = rw (flag-clear (variableField c.before.before.before.before.before.before.before.args.width) c.before.before.before.before.enum_told.given.1) c.before.before.put-field.ensures
+returns c = rw (flag-clear (variable_field c.before.before.before.before.before.before.before.args.width) c.before.before.before.before.enum_told.given.1) c.before.before.put-field.ensures
 
 same-length-2 : tie.Need-same-length-2
 same-length-2 c = search rules

@@ -1,7 +1,7 @@
 use borrow.Author.Rules.{rules}
 use mathlib.Core.Path.{ap, ◌∙◌}
 use native.Mathlib.Omega.{arith}
-use Rattle.emdf_format.specs.Syntax.{octetBits}
+use Rattle.emdf_format.specs.Syntax.{octet_bits}
 use Rattle.emdf_format.proofs.Payloads.{length-octets}
 use Rattle.emdf_field_writer.proofs.Putting.{octets-fit}
 use Rattle.emdf_field_writer.proofs.put_octets.Statement.{statement}
@@ -22,7 +22,7 @@ same_length c = search rules
 returns : tie.Need-returns
 returns c =
     let e = c.before.before.before.before.before.before.before in
-    (omega (arith, length-octets e.args.s.now), ap octetBits c.before.before.before.copy-bits.ensures.1 ∙ octets-fit _ _ _ e.requires)
+    (omega (arith, length-octets e.args.s.now), ap octet_bits c.before.before.before.copy-bits.ensures.1 ∙ octets-fit _ _ _ e.requires)
 
 pub put-octets-spec : {M : Type 1} → statement M
 put-octets-spec = tie.close (tie.spec mul-n copy-bits-requires add-t5 same_length returns)

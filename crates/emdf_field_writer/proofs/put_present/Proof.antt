@@ -1,5 +1,5 @@
 use borrow.Author.Rules.{rules}
-use Rattle.openjoc_bitio.specs.Bits.{numberBits}
+use Rattle.openjoc_bitio.specs.Bits.{number_bits}
 use Rattle.emdf_field_writer.proofs.Putting.{room-same, none-put}
 use Rattle.emdf_field_writer.proofs.Settings.{field-absent, field-present}
 use Rattle.emdf_field_writer.proofs.put_present.Statement.{statement}
@@ -14,10 +14,10 @@ enum-known-o c = search rules
 put-field-requires : tie.Need-put-field-requires
 put-field-requires c κs =
     let e = c.before.before.before.before.before in
-    (e.requires.0, room-same _ (field-present (numberBits e.args.width) c.before.before.o.given.1) e.requires.1)
+    (e.requires.0, room-same _ (field-present (number_bits e.args.width) c.before.before.o.given.1) e.requires.1)
 
 returns : tie.Need-returns
-returns c = rw (field-absent (numberBits c.before.before.before.args.width) c.enum_told.given.1) (none-put _ _)
+returns c = rw (field-absent (number_bits c.before.before.before.args.width) c.enum_told.given.1) (none-put _ _)
 
 same_length : tie.Need-same-length
 same_length c = search rules
@@ -25,7 +25,7 @@ same_length c = search rules
 returns-2 : tie.Need-returns-2
 returns-2 c =
     let d = c.before.before.before.before.before in
-    rw (field-present (numberBits d.before.before.before.args.width) d.o.given.1) c.before.before.put-field.ensures
+    rw (field-present (number_bits d.before.before.before.args.width) d.o.given.1) c.before.before.put-field.ensures
 
 pub put-present-spec : {M : Type 1} → statement M
 put-present-spec =

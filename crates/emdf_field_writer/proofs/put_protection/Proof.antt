@@ -1,8 +1,8 @@
 use borrow.Author.Rules.{rules}
 use native.Mathlib.Omega.{arith}
 use Rattle.openjoc_bitio.proofs.Bits.{length-number}
-use Rattle.emdf_format.specs.Syntax.{◌⨟◌, octetBits}
-use Rattle.emdf_format.specs.Contents.{protectionBits}
+use Rattle.emdf_format.specs.Syntax.{◌⨟◌, octet_bits}
+use Rattle.emdf_format.specs.Contents.{protection_bits}
 use Rattle.emdf_format.proofs.Standing.{length-then}
 use Rattle.emdf_field_writer.specs.Fields.{Room}
 use Rattle.emdf_field_writer.proofs.Putting.{room-first, room_next, then-put, length-protection}
@@ -11,11 +11,11 @@ use Rattle.emdf_field_writer.proofs.put_protection.Tie as tie
 
 -- the room left after the two codes
 after-codes : (c : tie.After-put-field2) → let a = c.before.before.before.before.before.before.before.before.before.before.before.args in
-    Room c.put-field2.new.0 c.put-field2.result.0 (octetBits a.primary.now ⨟ octetBits a.secondary.now)
+    Room c.put-field2.new.0 c.put-field2.result.0 (octet_bits a.primary.now ⨟ octet_bits a.secondary.now)
 after-codes c =
     let a = c.before.before.before.before.before.before.before.before.before.before.before.args in
     let e = c.before.before.before.before.before in
-    omega (arith, length-number 2 c.before.protection-code2.result, length-number 2 e.before.protection-code.result, c.put-field2.ensures.0, c.put-field2.auto.0, e.put-field.ensures.0, e.put-field.auto.0, length-protection a.primary.now a.secondary.now, length-then (octetBits a.primary.now) (octetBits a.secondary.now))
+    omega (arith, length-number 2 c.before.protection-code2.result, length-number 2 e.before.protection-code.result, c.put-field2.ensures.0, c.put-field2.auto.0, e.put-field.ensures.0, e.put-field.auto.0, length-protection a.primary.now a.secondary.now, length-then (octet_bits a.primary.now) (octet_bits a.secondary.now))
 
 protection-code-requires : tie.Need-protection-code-requires
 protection-code-requires c κs = search rules
@@ -46,7 +46,7 @@ same_length : tie.Need-same-length
 same_length c = search rules
 
 returns : tie.Need-returns
-unfolding protectionBits
+unfolding protection_bits
 returns c =
     let d = c.before.before.before.before.before.before.before.before.before.before in
     let e = c.before.before.before.before.before.before.before.before.before.before.before.before.before.before.before in

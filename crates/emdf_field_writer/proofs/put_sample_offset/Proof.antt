@@ -1,8 +1,8 @@
 use borrow.Author.Rules.{rules}
 use native.Mathlib.Omega.{arith}
-use Rattle.openjoc_bitio.specs.Bits.{numberBits}
+use Rattle.openjoc_bitio.specs.Bits.{number_bits}
 use Rattle.emdf_format.specs.Syntax.{◌⨟◌}
-use Rattle.emdf_format.specs.Contents.{sampleOffsetBits}
+use Rattle.emdf_format.specs.Contents.{sample_offset_bits}
 use Rattle.emdf_field_writer.specs.Fields.{Room}
 use Rattle.emdf_field_writer.proofs.Putting.{room-same, room-first, room_next, then-put}
 use Rattle.emdf_field_writer.proofs.Settings.{flag-clear, offset-set}
@@ -10,7 +10,7 @@ use Rattle.emdf_field_writer.proofs.put_sample_offset.Statement.{statement}
 use Rattle.emdf_field_writer.proofs.put_sample_offset.Tie as tie
 
 -- the room left after the flag
-after-flag : (c : tie.After-put-field2) → Room c.put-field2.new.0 c.put-field2.result.0 (numberBits 11 c.before.before.before.o.given.0.0 ⨟ numberBits 1 0)
+after-flag : (c : tie.After-put-field2) → Room c.put-field2.new.0 c.put-field2.result.0 (number_bits 11 c.before.before.before.o.given.0.0 ⨟ number_bits 1 0)
 after-flag c =
     let d = c.before.before.before in
     room_next _ _ _ _ _ (room-same _ (offset-set d.o.given.1) d.before.before.before.requires) c.put-field2.ensures c.put-field2.auto.0
@@ -19,7 +19,7 @@ enum_told : tie.Need-enum-told
 enum_told c = search rules
 
 put-field-requires : tie.Need-put-field-requires
-put-field-requires c κs = (omega arith, room-same _ (flag-clear sampleOffsetBits c.before.enum_told.given.1) c.before.before.before.before.requires)
+put-field-requires c κs = (omega arith, room-same _ (flag-clear sample_offset_bits c.before.enum_told.given.1) c.before.before.before.before.requires)
 
 enum-known-o : tie.Need-enum-known-o
 enum-known-o c = search rules
@@ -39,7 +39,7 @@ same_length : tie.Need-same-length
 same_length c = search rules
 
 returns : tie.Need-returns
-returns c = rw (flag-clear sampleOffsetBits c.before.before.before.before.enum_told.given.1) c.before.before.put-field.ensures
+returns c = rw (flag-clear sample_offset_bits c.before.before.before.before.enum_told.given.1) c.before.before.put-field.ensures
 
 same-length-2 : tie.Need-same-length-2
 same-length-2 c = search rules

@@ -1,19 +1,19 @@
 use borrow.Author.Rules.{rules}
 use native.Mathlib.Omega.{arith}
-use Rattle.emdf_format.specs.Syntax.{◌⨟◌, variableField, flaggedField}
-use Rattle.emdf_field_writer.specs.Fields.{Room, timingBits}
+use Rattle.emdf_format.specs.Syntax.{◌⨟◌, variable_field, flagged_field}
+use Rattle.emdf_field_writer.specs.Fields.{Room, timing_bits}
 use Rattle.emdf_field_writer.proofs.Putting.{room-first, room_next, then-put}
 use Rattle.emdf_field_writer.proofs.put_timing.Statement.{statement}
 use Rattle.emdf_field_writer.proofs.put_timing.Tie as tie
 
 -- the room left after the sample offset
 after-offset : (c : tie.After-put-sample-offset) → let t = c.before.before.before.args.t in
-    Room c.put-sample-offset.new.0 c.put-sample-offset.result.0 (flaggedField (variableField 11) t.duration ⨟ flaggedField (variableField 2) t.group_id)
-unfolding timingBits
+    Room c.put-sample-offset.new.0 c.put-sample-offset.result.0 (flagged_field (variable_field 11) t.duration ⨟ flagged_field (variable_field 2) t.group_id)
+unfolding timing_bits
 after-offset c = room_next _ _ _ _ _ c.before.before.before.requires c.put-sample-offset.ensures c.put-sample-offset.auto.0
 
 put-sample-offset-requires : tie.Need-put-sample-offset-requires
-unfolding timingBits
+unfolding timing_bits
 put-sample-offset-requires c κs = room-first _ _ _ c.before.before.requires
 
 put-flagged-requires : tie.Need-put-flagged-requires
@@ -28,7 +28,7 @@ same_length : tie.Need-same-length
 same_length c = search rules
 
 returns : tie.Need-returns
-unfolding timingBits
+unfolding timing_bits
 returns c =
     let d = c.before.before.before.before.before.before in
     then-put _ _ _ _ _ _ d.before.before.before.before.put-sample-offset.ensures (then-put _ _ _ _ _ _ d.put-flagged.ensures c.before.before.put-flagged2.ensures)

@@ -2,7 +2,7 @@ use mathlib.Core.Path.{◌≡◌, refl, ◌∙◌}
 use Prim.Native.Nat.{◌-◌, ◌≤◌}
 use native.Mathlib.Omega.{arith}
 use lib.ListN.{length}
-use Rattle.openjoc_bitio.specs.Bits.{numberBits}
+use Rattle.openjoc_bitio.specs.Bits.{number_bits}
 use Rattle.openjoc_bitio.proofs.Bits.{length-number}
 use Rattle.emdf_field_writer.specs.Fields.{Put}
 use Rattle.emdf_field_writer.proofs.Putting.{none-put, zeros-put}
@@ -11,13 +11,13 @@ use Rattle.emdf_field_writer.proofs.put_zeros.Tie as tie
 
 -- those before the left ones are put
 abbrev invariant-loop : tie.invariant-loop
-invariant-loop out₀ n next₀ left₀ out next left = (left ≤ n) × (length out ≡ length out₀) × Put out₀ next₀.0 (numberBits (n - left) 0) out next.0
+invariant-loop out₀ n next₀ left₀ out next left = (left ≤ n) × (length out ≡ length out₀) × Put out₀ next₀.0 (number_bits (n - left) 0) out next.0
 
 abbrev decreases-loop : tie.decreases-loop
 decreases-loop out₀ n next₀ left₀ out next left = left
 
 loop-holds : tie.Need-loop-init invariant-loop decreases-loop
-unfolding numberBits
+unfolding number_bits
 loop-holds c = let z : c.before.args.n - c.before.args.n ≡ 0 = omega arith in (omega arith, refl, rw z (none-put _ _))
 
 put-field-requires : tie.Need-put-field-requires invariant-loop decreases-loop

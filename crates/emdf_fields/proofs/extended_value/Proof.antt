@@ -4,8 +4,8 @@ use native.Mathlib.Omega.{arith}
 use borrow.Author.Tests.{lt-ltb, le-ltb, eq-eqb, ne_eqb}
 use mathlib.Core.Path.{refl, sym, ◌∙◌}
 use Rattle.emdf_format.proofs.Standing.{T_of, T-not-of}
-use Rattle.emdf_format.specs.Reader.{extendedValue, give}
-use Rattle.emdf_fields.specs.Fields.{fieldAnswer}
+use Rattle.emdf_format.specs.Reader.{extended_value, give}
+use Rattle.emdf_fields.specs.Fields.{field_answer}
 use Rattle.emdf_fields.proofs.Answers.{field_found, field-ends, via, no_more, yes, this, that}
 use Rattle.emdf_fields.proofs.extended_value.Statement.{statement}
 use Rattle.emdf_fields.proofs.extended_value.Tie as tie
@@ -20,12 +20,12 @@ enum_told : tie.Need-enum-told
 enum_told c = search rules
 
 returns : tie.Need-returns
-unfolding extendedValue fieldAnswer give
+unfolding extended_value field_answer give
 returns c = field-ends _ _ _ _ _ c.before.before.read-bits.ensures c.enum_told.given.1
 
 returns-2 : tie.Need-returns-2
-unfolding extendedValue fieldAnswer give
-returns-2 c = via fieldAnswer _ _ _ _ _ (field_found _ (sym c.before.before.before.before.read-bits.ensures ∙ c.before.before.a.given.1)) (that fieldAnswer _ _ _ _ _ _ (T-not-of (ne_eqb _ _ (λ h. c.if1.true (h ∙ sym c.before.before.before.before.before.before.requires.1)))) refl)
+unfolding extended_value field_answer give
+returns-2 c = via field_answer _ _ _ _ _ (field_found _ (sym c.before.before.before.before.read-bits.ensures ∙ c.before.before.a.given.1)) (that field_answer _ _ _ _ _ _ (T-not-of (ne_eqb _ _ (λ h. c.if1.true (h ∙ sym c.before.before.before.before.before.before.requires.1)))) refl)
 
 variable-field-requires : tie.Need-variable-field-requires
 variable-field-requires c κs = search rules
@@ -37,26 +37,26 @@ enum-told-2 : tie.Need-enum-told-2
 enum-told-2 c = search rules
 
 returns-3 : tie.Need-returns-3
-unfolding extendedValue fieldAnswer give
-returns-3 c = via fieldAnswer _ _ _ _ _ (field_found _ (sym c.before.before.before.before.before.before.before.read-bits.ensures ∙ c.before.before.before.before.before.a.given.1)) (this fieldAnswer _ _ _ _ _ _ (T_of (eq-eqb _ _ (c.before.before.before.if1.false ∙ c.before.before.before.before.before.before.before.before.before.requires.1))) (field-ends _ _ _ _ _ c.before.before.variable-field.ensures c.enum-told2.given.1))
+unfolding extended_value field_answer give
+returns-3 c = via field_answer _ _ _ _ _ (field_found _ (sym c.before.before.before.before.before.before.before.read-bits.ensures ∙ c.before.before.before.before.before.a.given.1)) (this field_answer _ _ _ _ _ _ (T_of (eq-eqb _ _ (c.before.before.before.if1.false ∙ c.before.before.before.before.before.before.before.before.before.requires.1))) (field-ends _ _ _ _ _ c.before.before.variable-field.ensures c.enum-told2.given.1))
 
 sub-if2 : tie.Need-overflow-sub-if2
 sub-if2 c = search rules
 
 returns-4 : tie.Need-returns-4
-unfolding extendedValue fieldAnswer give
+unfolding extended_value field_answer give
 returns-4 c =
     let sum : 2 ^ 64 ≤ c.before.before.before.before.before.before.before.a.given.0.0 + c.before.before.b.given.0.0 = omega arith in
-    via fieldAnswer _ _ _ _ _ (field_found _ (sym c.before.before.before.before.before.before.before.before.before.read-bits.ensures ∙ c.before.before.before.before.before.before.before.a.given.1)) (this fieldAnswer _ _ _ _ _ _ (T_of (eq-eqb _ _ (c.before.before.before.before.before.if1.false ∙ c.before.before.before.before.before.before.before.before.before.before.before.requires.1))) (via fieldAnswer _ _ _ _ _ (field_found _ (sym c.before.before.before.before.variable-field.ensures ∙ c.before.before.b.given.1)) (no_more fieldAnswer _ _ _ _ _ _ (T-not-of (le-ltb _ _ sum)) refl)))
+    via field_answer _ _ _ _ _ (field_found _ (sym c.before.before.before.before.before.before.before.before.before.read-bits.ensures ∙ c.before.before.before.before.before.before.before.a.given.1)) (this field_answer _ _ _ _ _ _ (T_of (eq-eqb _ _ (c.before.before.before.before.before.if1.false ∙ c.before.before.before.before.before.before.before.before.before.before.before.requires.1))) (via field_answer _ _ _ _ _ (field_found _ (sym c.before.before.before.before.variable-field.ensures ∙ c.before.before.b.given.1)) (no_more field_answer _ _ _ _ _ _ (T-not-of (le-ltb _ _ sum)) refl)))
 
 add-t12 : tie.Need-overflow-add-t12
 add-t12 c = search rules
 
 returns-5 : tie.Need-returns-5
-unfolding extendedValue fieldAnswer give
+unfolding extended_value field_answer give
 returns-5 c =
     let sum : c.before.before.before.before.before.before.before.a.given.0.0 + c.before.before.b.given.0.0 < 2 ^ 64 = omega arith in
-    via fieldAnswer _ _ _ _ _ (field_found _ (sym c.before.before.before.before.before.before.before.before.before.read-bits.ensures ∙ c.before.before.before.before.before.before.before.a.given.1)) (this fieldAnswer _ _ _ _ _ _ (T_of (eq-eqb _ _ (c.before.before.before.before.before.if1.false ∙ c.before.before.before.before.before.before.before.before.before.before.before.requires.1))) (via fieldAnswer _ _ _ _ _ (field_found _ (sym c.before.before.before.before.variable-field.ensures ∙ c.before.before.b.given.1)) (yes fieldAnswer _ _ _ _ _ _ (T_of (lt-ltb _ _ sum)) refl)))
+    via field_answer _ _ _ _ _ (field_found _ (sym c.before.before.before.before.before.before.before.before.before.read-bits.ensures ∙ c.before.before.before.before.before.before.before.a.given.1)) (this field_answer _ _ _ _ _ _ (T_of (eq-eqb _ _ (c.before.before.before.before.before.if1.false ∙ c.before.before.before.before.before.before.before.before.before.before.before.requires.1))) (via field_answer _ _ _ _ _ (field_found _ (sym c.before.before.before.before.variable-field.ensures ∙ c.before.before.b.given.1)) (yes field_answer _ _ _ _ _ _ (T_of (lt-ltb _ _ sum)) refl)))
 
 pub extended-value-spec : {M : Type 1} → statement M
 extended-value-spec =

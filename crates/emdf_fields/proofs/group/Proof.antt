@@ -2,7 +2,7 @@ use borrow.Author.Rules.{rules}
 use mathlib.Core.Path.{◌∙◌}
 use Prim.Native.Nat.{◌<◌}
 use native.Mathlib.Omega.{arith}
-use Rattle.openjoc_bitio.specs.Cursor.{bitsRemaining}
+use Rattle.openjoc_bitio.specs.Cursor.{bits_remaining}
 use Rattle.openjoc_bitio.proofs.Cursor.{remaining-end}
 use Rattle.emdf_fields.proofs.Variable.{group-word}
 use Rattle.emdf_fields.proofs.group.Statement.{statement}
@@ -39,7 +39,7 @@ group-of-requires c κs =
 returns : tie.Need-returns
 returns c =
     let a = c.before.before.before.before.before.before.args in
-    let l : a.width < bitsRemaining a.s.now a.c = omega (arith, c.before.before.before.bits-remaining.ensures) in
+    let l : a.width < bits_remaining a.s.now a.c = omega (arith, c.before.before.before.bits-remaining.ensures) in
     c.Group-of.ensures ∙ rw c.before.window-at.ensures (group-word _ _ _ _ a.s.now a.c.end a.c.position (omega arith) l)
 
 group-by-fields-requires : tie.Need-group-by-fields-requires

@@ -4,7 +4,7 @@ use mathlib.Core.Path.{sym, ◌∙◌}
 use Prim.Native.Nat.{◌+◌, ◌^◌, ◌≤◌, ◌<◌}
 use native.Mathlib.Omega.{arith}
 use Rattle.emdf_format.proofs.Standing.{T_of}
-use Rattle.emdf_fields.specs.Fields.{oneGroup, groupAnswer}
+use Rattle.emdf_fields.specs.Fields.{one_group, group_answer}
 use Rattle.emdf_fields.proofs.Answers.{field_found, via, yes}
 use Rattle.emdf_fields.proofs.Variable.{group-ends, value-overflows, rest-found}
 use Rattle.emdf_fields.proofs.group_by_fields.Statement.{statement}
@@ -23,7 +23,7 @@ refused-group-requires : tie.Need-refused-group-requires
 refused-group-requires c κs = search rules
 
 returns : tie.Need-returns
-unfolding oneGroup
+unfolding one_group
 returns c = group-ends _ _ _ _ _ c.before.before.before.read-bits.ensures c.before.enum_told.given.1 c.refused-group.ensures
 
 sub-if1 : tie.Need-overflow-sub-if1
@@ -47,10 +47,10 @@ refused-group-requires-2 : tie.Need-refused-group-requires-2
 refused-group-requires-2 c κs = search rules
 
 returns-3 : tie.Need-returns-3
-unfolding oneGroup
+unfolding one_group
 returns-3 c =
     let fits : c.before.before.before.before.before.before.before.before.before.before.args.start + c.before.before.before.before.before.before.a.given.0.0 < 2 ^ 64 = omega arith in
-    via groupAnswer _ _ _ _ _ (field_found _ (sym c.before.before.before.before.before.before.before.before.read-bits.ensures ∙ c.before.before.before.before.before.before.a.given.1)) (yes groupAnswer _ _ _ _ _ _ (T_of (lt-ltb _ _ fits)) (group-ends _ _ _ _ _ c.before.before.before.read-bits2.ensures c.before.enum-told2.given.1 c.refused-group2.ensures))
+    via group_answer _ _ _ _ _ (field_found _ (sym c.before.before.before.before.before.before.before.before.read-bits.ensures ∙ c.before.before.before.before.before.before.a.given.1)) (yes group_answer _ _ _ _ _ _ (T_of (lt-ltb _ _ fits)) (group-ends _ _ _ _ _ c.before.before.before.read-bits2.ensures c.before.enum-told2.given.1 c.refused-group2.ensures))
 
 add-group-rest : tie.Need-overflow-add-group-rest
 add-group-rest c = search rules

@@ -2,14 +2,14 @@ use borrow.Author.Rules.{rules}
 use Prim.Native.Nat.{◌<◌}
 use mathlib.Core.Path.{◌≡◌, refl, sym, ◌∙◌}
 use native.Mathlib.Omega.{arith}
-use Rattle.emdf_format.specs.Reader.{groupsFrom}
-use Rattle.emdf_fields.specs.Fields.{fieldAnswer}
+use Rattle.emdf_format.specs.Reader.{groups_from}
+use Rattle.emdf_fields.specs.Fields.{field_answer}
 use Rattle.emdf_fields.proofs.Variable.{at_last, at-refused, at_more, more_left}
 use Rattle.emdf_fields.proofs.groups.Statement.{statement}
 use Rattle.emdf_fields.proofs.groups.Tie as tie
 
 abbrev invariant-loop : tie.invariant-loop
-invariant-loop s width limit start₀ at₀ left₀ start at left = (0 < left) × (fieldAnswer at.end (groupsFrom width limit left start s at.end at.position) ≡ fieldAnswer at₀.end (groupsFrom width limit limit 0 s at₀.end at₀.position))
+invariant-loop s width limit start₀ at₀ left₀ start at left = (0 < left) × (field_answer at.end (groups_from width limit left start s at.end at.position) ≡ field_answer at₀.end (groups_from width limit limit 0 s at₀.end at₀.position))
 
 abbrev decreases-loop : tie.decreases-loop
 decreases-loop s width limit start₀ at₀ left₀ start at left = left

@@ -1,8 +1,8 @@
 use borrow.Author.Rules.{rules}
 use mathlib.Core.Path.{sym, ◌∙◌}
-use Rattle.emdf_format.specs.Reader.{bits, fromBits}
+use Rattle.emdf_format.specs.Reader.{bits, from_bits}
 use Rattle.openjoc_bitio.proofs.Cursor.{read_past}
-use Rattle.emdf_fields.specs.Fields.{fieldAnswer}
+use Rattle.emdf_fields.specs.Fields.{field_answer}
 use Rattle.emdf_fields.proofs.read_bits.Statement.{statement}
 use Rattle.emdf_fields.proofs.read_bits.Tie as tie
 
@@ -16,13 +16,13 @@ enum-known-a-2 : tie.Need-enum-known-a-2
 enum-known-a-2 c = search rules
 
 returns : tie.Need-returns
-unfolding fieldAnswer bits fromBits
+unfolding field_answer bits from_bits
 returns c =
     let h = sym c.before.before.before.read-bits.ensures ∙ c.before.a.given.1 in
     rw (h, ← read_past _ _ _ h)
 
 returns-2 : tie.Need-returns-2
-unfolding fieldAnswer bits fromBits
+unfolding field_answer bits from_bits
 returns-2 c = rw (sym c.before.before.before.read-bits.ensures ∙ c.before.a2.given.1)
 
 pub read-bits-spec : {M : Type 1} → statement M

@@ -3,8 +3,8 @@ use mathlib.Core.Path.{◌≡◌, sym, ap, ◌∙◌}
 use Prim.Native.Nat.{ℕ, ◌+◌, ◌*◌}
 use native.Mathlib.Omega.{arith}
 use Rattle.emdf_format.specs.Syntax.{groups}
-use Rattle.emdf_format.specs.Reader.{variableBits}
-use Rattle.emdf_fields.specs.Fields.{variableAnswer}
+use Rattle.emdf_format.specs.Reader.{variable_bits}
+use Rattle.emdf_fields.specs.Fields.{variable_answer}
 use Rattle.emdf_fields.specs.declared.VariableAnswer.TheVariants as VariableAnswer
 use Rattle.emdf_fields.proofs.Answers.{variable-found, variable-ended, groups-over}
 use Rattle.emdf_fields.proofs.variable_bits.Statement.{statement}
@@ -13,7 +13,7 @@ use Rattle.emdf_fields.proofs.variable_bits.Tie as tie
 -- the field that is found, and its bits
 found : (c : tie.After-value) → let k = c.before.before.before.before.args in
     (c.value.given.0.1.0.position ≡ k.c.position + (k.width + 1) * groups k.width c.value.given.0.0)
-    × (VariableAnswer.Value c.value.given.0.0 (groups k.width c.value.given.0.0) c.value.given.0.1.0 ≡ variableAnswer k.width k.c.end (variableBits k.width k.limit k.s.now k.c.end k.c.position))
+    × (VariableAnswer.Value c.value.given.0.0 (groups k.width c.value.given.0.0) c.value.given.0.1.0 ≡ variable_answer k.width k.c.end (variable_bits k.width k.limit k.s.now k.c.end k.c.position))
 found c = variable-found _ _ _ _ (sym c.before.before.variable-field.ensures ∙ c.value.given.1)
 
 variable-field-requires : tie.Need-variable-field-requires

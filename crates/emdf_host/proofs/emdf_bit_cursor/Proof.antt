@@ -1,5 +1,5 @@
 use borrow.Author.Rules.{rules}
-use Rattle.emdf_answers.specs.Bits.{newReply}
+use Rattle.emdf_answers.specs.Bits.{new_reply}
 use Rattle.emdf_host.proofs.emdf_bit_cursor.Statement.{statement}
 use Rattle.emdf_host.proofs.emdf_bit_cursor.Tie as tie
 
@@ -13,7 +13,7 @@ put-reply-requires : tie.Need-put-reply-requires
 put-reply-requires c κs = search rules
 
 returns : tie.Need-returns
-unfolding newReply
+unfolding new_reply
 returns c = rw (c.before.accepted-at.ensures, c.before.before.new.ensures) at c.put-reply.ensures
 
 pub emdf-bit-cursor-spec : {M : Type 1} → statement M

@@ -1,5 +1,5 @@
 use borrow.Author.Rules.{rules}
-use Rattle.emdf_answers.specs.Bits.{remainingReply}
+use Rattle.emdf_answers.specs.Bits.{remaining_reply}
 use Rattle.emdf_host.proofs.emdf_bits_remaining.Statement.{statement}
 use Rattle.emdf_host.proofs.emdf_bits_remaining.Tie as tie
 
@@ -13,7 +13,7 @@ put-reply-requires : tie.Need-put-reply-requires
 put-reply-requires c κs = search rules
 
 returns : tie.Need-returns
-unfolding remainingReply
+unfolding remaining_reply
 returns c = rw (c.before.accepted-at.ensures, c.before.before.before.bits-remaining.ensures) at c.put-reply.ensures
 
 pub emdf-bits-remaining-spec : {M : Type 1} → statement M

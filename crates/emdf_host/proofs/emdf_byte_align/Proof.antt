@@ -1,5 +1,5 @@
 use borrow.Author.Rules.{rules}
-use Rattle.emdf_answers.specs.Bits.{byteAlignReply}
+use Rattle.emdf_answers.specs.Bits.{byte_align_reply}
 use Rattle.emdf_host.proofs.emdf_byte_align.Statement.{statement}
 use Rattle.emdf_host.proofs.emdf_byte_align.Tie as tie
 
@@ -13,7 +13,7 @@ put-reply-requires : tie.Need-put-reply-requires
 put-reply-requires c κs = search rules
 
 returns : tie.Need-returns
-unfolding byteAlignReply
+unfolding byte_align_reply
 returns c = rw (← c.before.before.byte-align.ensures, ← c.before.align-reply.ensures) c.put-reply.ensures
 
 pub emdf-byte-align-spec : {M : Type 1} → statement M

@@ -3,14 +3,14 @@ use mathlib.Core.Path.{◌≡◌, sym, ◌∙◌}
 use native.Mathlib.Omega.{arith}
 use lib.Seq.{length-take-le}
 use Rattle.emdf_format.specs.Reading.{reading}
-use Rattle.openjoc_emdf.specs.Answers.{openAnswer}
+use Rattle.openjoc_emdf.specs.Answers.{open_answer}
 use Rattle.openjoc_emdf.specs.declared.OpenAnswer.TheVariants as OpenAnswer
 use Rattle.openjoc_emdf.proofs.Opening.{opened}
 use Rattle.emdf_host.proofs.Carriers.{all_listed, refused-table, refused-carrier, read-carrier}
 use Rattle.emdf_host.proofs.emdf_read.Statement.{statement}
 use Rattle.emdf_host.proofs.emdf_read.Tie as tie
 
-opening : (c : tie.After-a) → let s = c.before.before.before.before.before.args.bytes.now in openAnswer s (reading s) ≡ OpenAnswer.Open c.a.given.0.0 c.a.given.0.1.0
+opening : (c : tie.After-a) → let s = c.before.before.before.before.before.args.bytes.now in open_answer s (reading s) ≡ OpenAnswer.Open c.a.given.0.0 c.a.given.0.1.0
 opening c = sym c.before.before.open-carrier.ensures ∙ c.a.given.1
 
 open-carrier-requires : tie.Need-open-carrier-requires

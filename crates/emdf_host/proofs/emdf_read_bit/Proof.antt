@@ -1,5 +1,5 @@
 use borrow.Author.Rules.{rules}
-use Rattle.emdf_answers.specs.Bits.{readBitReply}
+use Rattle.emdf_answers.specs.Bits.{read_bit_reply}
 use Rattle.emdf_host.proofs.emdf_read_bit.Statement.{statement}
 use Rattle.emdf_host.proofs.emdf_read_bit.Tie as tie
 
@@ -13,7 +13,7 @@ put-reply-requires : tie.Need-put-reply-requires
 put-reply-requires c κs = search rules
 
 returns : tie.Need-returns
-unfolding readBitReply
+unfolding read_bit_reply
 returns c = rw (← c.before.before.read-bit.ensures, ← c.before.bit-reply.ensures) c.put-reply.ensures
 
 pub emdf-read-bit-spec : {M : Type 1} → statement M

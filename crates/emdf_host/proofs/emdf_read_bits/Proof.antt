@@ -1,5 +1,5 @@
 use borrow.Author.Rules.{rules}
-use Rattle.emdf_answers.specs.Bits.{readBitsReply}
+use Rattle.emdf_answers.specs.Bits.{read_bits_reply}
 use Rattle.emdf_host.proofs.emdf_read_bits.Statement.{statement}
 use Rattle.emdf_host.proofs.emdf_read_bits.Tie as tie
 
@@ -13,7 +13,7 @@ put-reply-requires : tie.Need-put-reply-requires
 put-reply-requires c κs = search rules
 
 returns : tie.Need-returns
-unfolding readBitsReply
+unfolding read_bits_reply
 returns c = rw (← c.before.before.read-bits.ensures, ← c.before.bits-reply.ensures) c.put-reply.ensures
 
 pub emdf-read-bits-spec : {M : Type 1} → statement M

@@ -1,5 +1,5 @@
 use borrow.Author.Rules.{rules}
-use Rattle.emdf_answers.specs.Bits.{takeBitsReply}
+use Rattle.emdf_answers.specs.Bits.{take_bits_reply}
 use Rattle.emdf_host.proofs.emdf_take_bits.Statement.{statement}
 use Rattle.emdf_host.proofs.emdf_take_bits.Tie as tie
 
@@ -13,7 +13,7 @@ put-reply-requires : tie.Need-put-reply-requires
 put-reply-requires c κs = search rules
 
 returns : tie.Need-returns
-unfolding takeBitsReply
+unfolding take_bits_reply
 returns c = rw (← c.before.before.take-bits.ensures, ← c.before.window-reply.ensures) c.put-reply.ensures
 
 pub emdf-take-bits-spec : {M : Type 1} → statement M

@@ -1,5 +1,5 @@
 use borrow.Author.Rules.{rules}
-use Rattle.emdf_answers.specs.Fields.{variableBitsReply}
+use Rattle.emdf_answers.specs.Fields.{variable_bits_reply}
 use Rattle.emdf_host.proofs.emdf_variable_bits.Statement.{statement}
 use Rattle.emdf_host.proofs.emdf_variable_bits.Tie as tie
 
@@ -13,7 +13,7 @@ put-field-requires : tie.Need-put-field-requires
 put-field-requires c κs = search rules
 
 returns : tie.Need-returns
-unfolding variableBitsReply
+unfolding variable_bits_reply
 returns c = rw (← c.before.before.variable-bits.ensures, ← c.before.field-reply.ensures) c.put-field.ensures
 
 pub emdf-variable-bits-spec : {M : Type 1} → statement M

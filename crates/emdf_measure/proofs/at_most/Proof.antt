@@ -1,5 +1,5 @@
 use borrow.Author.Rules.{rules}
-use Rattle.emdf_format.specs.Contents.{whenPresent, up_to}
+use Rattle.emdf_format.specs.Contents.{when_present, up_to}
 use Rattle.emdf_measure.proofs.at_most.Statement.{statement}
 use Rattle.emdf_measure.proofs.at_most.Tie as tie
 
@@ -10,11 +10,11 @@ enum-known-o : tie.Need-enum-known-o
 enum-known-o c = search rules
 
 returns : tie.Need-returns
-unfolding whenPresent
+unfolding when_present
 returns c = rw c.enum_told.given.1
 
 returns-2 : tie.Need-returns-2
-unfolding whenPresent up_to
+unfolding when_present up_to
 returns-2 c = rw c.before.o.given.1
 
 pub at-most-spec : {M : Type 1} → statement M

@@ -1,8 +1,8 @@
 use borrow.Author.Rules.{rules}
 use native.Mathlib.Omega.{arith}
 use borrow.Author.Tests.{eq-eqb, ne_eqb}
-use Rattle.emdf_format.specs.Contents.{neededConfig}
-use Rattle.emdf_measure.specs.Parts.{controlBits}
+use Rattle.emdf_format.specs.Contents.{needed_config}
+use Rattle.emdf_measure.specs.Parts.{control_bits}
 use Rattle.emdf_measure.proofs.config_bits.Statement.{statement}
 use Rattle.emdf_measure.proofs.config_bits.Tie as tie
 
@@ -34,7 +34,7 @@ add-result-3 : tie.Need-overflow-add-result-3
 add-result-3 c = search rules
 
 returns : tie.Need-returns
-unfolding neededConfig controlBits
+unfolding needed_config control_bits
 returns c =
     let e = eq-eqb _ 0 c.before.if1.true in
     rw e (omega (arith, c.before.before.before.before.before.offset-bits.ensures, c.before.before.before.before.variable-bits.ensures, c.before.before.before.variable-bits2.ensures, c.control-bits.ensures))
@@ -52,7 +52,7 @@ add-result-6 : tie.Need-overflow-add-result-6
 add-result-6 c = search rules
 
 returns-2 : tie.Need-returns-2
-unfolding neededConfig controlBits
+unfolding needed_config control_bits
 returns-2 c =
     let e = ne_eqb _ 0 c.before.if1.false in
     rw e (omega (arith, c.before.before.before.before.before.offset-bits.ensures, c.before.before.before.before.variable-bits.ensures, c.before.before.before.variable-bits2.ensures, c.control-bits2.ensures))

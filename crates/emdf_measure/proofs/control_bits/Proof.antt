@@ -1,6 +1,6 @@
 use borrow.Author.Rules.{rules}
 use native.Mathlib.Omega.{arith}
-use Rattle.emdf_measure.specs.Parts.{controlBits}
+use Rattle.emdf_measure.specs.Parts.{control_bits}
 use Rattle.emdf_measure.proofs.control_bits.Statement.{statement}
 use Rattle.emdf_measure.proofs.control_bits.Tie as tie
 
@@ -32,7 +32,7 @@ add-result-2 : tie.Need-overflow-add-result-2
 add-result-2 c = search rules
 
 returns : tie.Need-returns
-unfolding controlBits
+unfolding control_bits
 returns c = omega (arith, c.before.before.before.before.present-bits.ensures, c.before.before.before.present-bits2.ensures, c.before.before.present-bits3.ensures, c.before.present-bits4.ensures, c.present-bits5.ensures)
 
 pub control-bits-spec : {M : Type 1} → statement M

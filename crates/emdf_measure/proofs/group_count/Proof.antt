@@ -2,13 +2,13 @@ use Prim.Native.Nat.{◌+◌, ◌-◌}
 use lib.Pow.{shr_le}
 use mathlib.Core.Path.{◌≡◌}
 use native.Mathlib.Omega.{arith}
-use Rattle.emdf_format.specs.Syntax.{countBefore, groups}
+use Rattle.emdf_format.specs.Syntax.{count_before, groups}
 use Rattle.emdf_measure.proofs.Asked.{count-more, groups-few}
 use Rattle.emdf_measure.proofs.group_count.Statement.{statement}
 use Rattle.emdf_measure.proofs.group_count.Tie as tie
 
 abbrev invariant-loop : tie.invariant-loop
-invariant-loop width v left₀ n₀ left n = n + countBefore left width left ≡ groups width v
+invariant-loop width v left₀ n₀ left n = n + count_before left width left ≡ groups width v
 
 abbrev decreases-loop : tie.decreases-loop
 decreases-loop width v left₀ n₀ left n = left
@@ -36,7 +36,7 @@ loop-again : tie.Need-loop-preserved invariant-loop decreases-loop
 loop-again c = omega (arith, c.before.loop.invariant, count-more c.before.before.args.width c.before.loop.left (λ e. omega (arith, e)))
 
 returns : tie.Need-returns invariant-loop decreases-loop
-unfolding countBefore
+unfolding count_before
 returns c =
     let b = c.before.before in
     let z : c.before.loop.left ≡ 0 = omega arith in

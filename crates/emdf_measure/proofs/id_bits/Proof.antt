@@ -3,7 +3,7 @@ use Prim.Native.Nat.{◌≤◌}
 use native.Mathlib.Omega.{arith}
 use lib.Dec.{lit<}
 use Rattle.emdf_format.specs.Syntax.{escape}
-use Rattle.emdf_format.specs.Contents.{extensionBits}
+use Rattle.emdf_format.specs.Contents.{extension_bits}
 use Rattle.emdf_measure.proofs.Asked.{extended-few}
 use Rattle.emdf_measure.proofs.id_bits.Statement.{statement}
 use Rattle.emdf_measure.proofs.id_bits.Tie as tie
@@ -22,7 +22,7 @@ add-result : tie.Need-overflow-add-result
 add-result c = omega (arith, few c)
 
 returns : tie.Need-returns
-unfolding extensionBits
+unfolding extension_bits
 returns c = rw c.extended-groups.ensures
 
 pub id-bits-spec : {M : Type 1} → statement M

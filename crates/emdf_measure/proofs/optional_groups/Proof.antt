@@ -1,5 +1,5 @@
 use borrow.Author.Rules.{rules}
-use Rattle.emdf_format.specs.Groups.{optionalGroups}
+use Rattle.emdf_format.specs.Groups.{optional_groups}
 use Rattle.emdf_measure.proofs.optional_groups.Statement.{statement}
 use Rattle.emdf_measure.proofs.optional_groups.Tie as tie
 
@@ -13,11 +13,11 @@ group-count-requires : tie.Need-group-count-requires
 group-count-requires c κs = search rules
 
 returns : tie.Need-returns
-unfolding optionalGroups
+unfolding optional_groups
 returns c = rw c.enum_told.given.1
 
 returns-2 : tie.Need-returns-2
-unfolding optionalGroups
+unfolding optional_groups
 returns-2 c = rw (c.before.before.o.given.1, c.group-count.ensures.0)
 
 pub optional-groups-spec : {M : Type 1} → statement M

@@ -1,6 +1,6 @@
 use borrow.Author.Rules.{rules}
 use native.Mathlib.Omega.{arith}
-use Rattle.emdf_format.specs.Contents.{flaggedBits}
+use Rattle.emdf_format.specs.Contents.{flagged_bits}
 use Rattle.emdf_measure.proofs.Asked.{bits-few}
 use Rattle.emdf_measure.proofs.variable_bits.Statement.{statement}
 use Rattle.emdf_measure.proofs.variable_bits.Tie as tie
@@ -24,11 +24,11 @@ add-result-2 : tie.Need-overflow-add-result-2
 add-result-2 c = omega (arith, bits-few c.before.before.before.before.args.width c.group-count.result c.before.before.before.before.requires.1 c.group-count.ensures.1)
 
 returns : tie.Need-returns
-unfolding flaggedBits
+unfolding flagged_bits
 returns c = (rw c.enum_told.given.1, omega arith)
 
 returns-2 : tie.Need-returns-2
-unfolding flaggedBits
+unfolding flagged_bits
 returns-2 c = (rw (c.before.before.o.given.1, ← c.group-count.ensures.0), omega (arith, bits-few c.before.before.before.before.args.width c.group-count.result c.before.before.before.before.requires.1 c.group-count.ensures.1))
 
 pub variable-bits-spec : {M : Type 1} → statement M

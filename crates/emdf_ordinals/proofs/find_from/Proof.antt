@@ -5,10 +5,10 @@ use mathlib.Core.List.{List}
 use mathlib.Core.Logic.{⊎_elim}
 use native.Mathlib.Omega.{arith}
 use lib.Dec.{eqb}
-use Rattle.openjoc_bitio.specs.Choice.{if◌then◌else◌}
-use Rattle.openjoc_bitio.specs.Cursor.{bitsRemaining}
+use Rattle.std.specs.Prelude.{if◌then◌else◌}
+use Rattle.openjoc_bitio.specs.Cursor.{bits_remaining}
 use Rattle.emdf_format.specs.Reading.{Found}
-use Rattle.emdf_format.specs.Ordinals.{rows_of, findIn}
+use Rattle.emdf_format.specs.Ordinals.{rows_of, find_in}
 use Rattle.emdf_payloads.proofs.Turns.{at-payload}
 use Rattle.emdf_payloads.specs.Payloads.{Listed}
 use Rattle.emdf_payloads.proofs.Walk.{skip-past, skip-end, skip-refused}
@@ -18,10 +18,10 @@ use Rattle.emdf_ordinals.proofs.find_from.Tie as tie
 
 abbrev invariant-loop : tie.invariant-loop
 invariant-loop s id ordinal at₀ place₀ seen₀ at place seen =
-    (place ≤ at.position) × (seen ≤ place) × ((xs : List Found) → Listed s at₀ xs → Looking s at id ordinal place seen (findIn id ordinal 0 (rows_of xs)))
+    (place ≤ at.position) × (seen ≤ place) × ((xs : List Found) → Listed s at₀ xs → Looking s at id ordinal place seen (find_in id ordinal 0 (rows_of xs)))
 
 abbrev decreases-loop : tie.decreases-loop
-decreases-loop s id ordinal at₀ place₀ seen₀ at place seen = bitsRemaining s at
+decreases-loop s id ordinal at₀ place₀ seen₀ at place seen = bits_remaining s at
 
 loop-holds : tie.Need-loop-init invariant-loop decreases-loop
 loop-holds c = (omega arith, omega arith, λ xs l. looking-all _ _ xs l)

@@ -1,15 +1,15 @@
 use Prim.Native.Nat.{ℕ, ◌+◌, ◌-◌, ◌*◌, ◌≤◌}
 use mathlib.Core.Path.{◌≡◌, refl, sym, ap, ◌∙◌}
 use native.Mathlib.Omega.{arith}
-use Rattle.openjoc_bitio.specs.Bits.{bitsValue}
-use Rattle.emdf_ordinals.specs.Rows.{lastOrdinal, columnAt}
+use Rattle.openjoc_bitio.specs.Bits.{bits_value}
+use Rattle.emdf_ordinals.specs.Rows.{last_ordinal, column_at}
 use Rattle.emdf_ordinals.proofs.Rows.{none_left, last-here, last-before, row-start, row_within}
 use Rattle.emdf_ordinals.proofs.last_ordinal.Statement.{statement}
 use Rattle.emdf_ordinals.proofs.last_ordinal.Tie as tie
 
 abbrev invariant-loop : tie.invariant-loop
 invariant-loop table width offset rows id left₀ at₀ left at =
-    (left ≤ rows) × (at ≡ left * width) × (lastOrdinal (columnAt table width 0) (columnAt table width offset) id left ≡ lastOrdinal (columnAt table width 0) (columnAt table width offset) id rows)
+    (left ≤ rows) × (at ≡ left * width) × (last_ordinal (column_at table width 0) (column_at table width offset) id left ≡ last_ordinal (column_at table width 0) (column_at table width offset) id rows)
 
 abbrev decreases-loop : tie.decreases-loop
 decreases-loop table width offset rows id left₀ at₀ left at = left
@@ -52,7 +52,7 @@ returns c =
     let (n, e) = row-start _ _ _ l.invariant.1 left in
     let i : (l.at - a.width) * 8 ≡ ((l.left - 1) * a.width + 0) * 8 = omega (arith, e) in
     let o : (l.at - a.width + a.offset) * 8 ≡ ((l.left - 1) * a.width + a.offset) * 8 = omega (arith, e) in
-    c.octets-at2.ensures ∙ ap (λ (p : ℕ). bitsValue a.table.now p 64) o ∙ last-here _ _ _ l.left left (sym (c.before.before.octets-at.ensures ∙ ap (λ (p : ℕ). bitsValue a.table.now p 64) i) ∙ c.before.if1.true) ∙ l.invariant.2
+    c.octets-at2.ensures ∙ ap (λ (p : ℕ). bits_value a.table.now p 64) o ∙ last-here _ _ _ l.left left (sym (c.before.before.octets-at.ensures ∙ ap (λ (p : ℕ). bits_value a.table.now p 64) i) ∙ c.before.if1.true) ∙ l.invariant.2
 
 loop-less : tie.Need-loop-smaller invariant-loop decreases-loop
 loop-less c = let h : c.before.before.before.loop.left ≡ 0 → ⊥ = c.before.before.loop-test.true in omega arith
@@ -64,7 +64,7 @@ loop-again c =
     let left : l.left ≡ 0 → ⊥ = c.before.before.loop-test.true in
     let (n, e) = row-start _ _ _ l.invariant.1 left in
     let i : (l.at - a.width) * 8 ≡ ((l.left - 1) * a.width + 0) * 8 = omega (arith, e) in
-    (omega (arith, l.invariant.0), e, last-before _ _ _ l.left left (λ z. c.if1.false (c.before.octets-at.ensures ∙ ap (λ (p : ℕ). bitsValue a.table.now p 64) i ∙ z)) ∙ l.invariant.2)
+    (omega (arith, l.invariant.0), e, last-before _ _ _ l.left left (λ z. c.if1.false (c.before.octets-at.ensures ∙ ap (λ (p : ℕ). bits_value a.table.now p 64) i ∙ z)) ∙ l.invariant.2)
 
 returns-2 : tie.Need-returns-2 invariant-loop decreases-loop
 returns-2 c = sym (none_left _ _ _ _ c.loop-test.false) ∙ c.before.loop.invariant.2

@@ -2,17 +2,17 @@ use borrow.Author.Rules.{rules}
 use Prim.Native.Nat.{◌≤◌}
 use mathlib.Core.Path.{◌≡◌, refl, sym, ◌∙◌}
 use native.Mathlib.Omega.{arith}
-use Rattle.openjoc_bitio.specs.Cursor.{bitsRemaining}
+use Rattle.openjoc_bitio.specs.Cursor.{bits_remaining}
 use Rattle.emdf_format.specs.Reading.{payloads}
-use Rattle.emdf_payload_list.proofs.Counting.{countFrom, count-all, at-end, at-refused, at-payload, count_past, count-end, count-refused}
+use Rattle.emdf_payload_list.proofs.Counting.{count_from, count-all, at-end, at-refused, at-payload, count_past, count-end, count-refused}
 use Rattle.emdf_payload_list.proofs.count_payloads.Statement.{statement}
 use Rattle.emdf_payload_list.proofs.count_payloads.Tie as tie
 
 abbrev invariant-loop : tie.invariant-loop
-invariant-loop s count₀ groups₀ at₀ count groups at = (count ≤ at.position) × (countFrom count groups at.end (payloads (bitsRemaining s at) s at.end at.position) ≡ countFrom 0 0 at₀.end (payloads (bitsRemaining s at₀) s at₀.end at₀.position))
+invariant-loop s count₀ groups₀ at₀ count groups at = (count ≤ at.position) × (count_from count groups at.end (payloads (bits_remaining s at) s at.end at.position) ≡ count_from 0 0 at₀.end (payloads (bits_remaining s at₀) s at₀.end at₀.position))
 
 abbrev decreases-loop : tie.decreases-loop
-decreases-loop s count₀ groups₀ at₀ count groups at = bitsRemaining s at
+decreases-loop s count₀ groups₀ at₀ count groups at = bits_remaining s at
 
 loop-holds : tie.Need-loop-init invariant-loop decreases-loop
 loop-holds c = (omega arith, refl)

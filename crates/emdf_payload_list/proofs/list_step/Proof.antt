@@ -1,5 +1,5 @@
 use borrow.Author.Rules.{rules}
-use Rattle.emdf_payload_list.specs.List.{listStep}
+use Rattle.emdf_payload_list.specs.List.{list_step}
 use Rattle.emdf_payload_list.proofs.list_step.Statement.{statement}
 use Rattle.emdf_payload_list.proofs.list_step.Tie as tie
 
@@ -19,15 +19,15 @@ enum-known-step-3 : tie.Need-enum-known-step-3
 enum-known-step-3 c = search rules
 
 returns : tie.Need-returns
-unfolding listStep
+unfolding list_step
 returns c = rw (c.before.before.before.step.given.1, c.larger.ensures, c.before.record-groups.ensures)
 
 returns-2 : tie.Need-returns-2
-unfolding listStep
+unfolding list_step
 returns-2 c = rw c.before.step2.given.1
 
 returns-3 : tie.Need-returns-3
-unfolding listStep
+unfolding list_step
 returns-3 c = rw c.before.step3.given.1
 
 pub list-step-spec : {M : Type 1} → statement M

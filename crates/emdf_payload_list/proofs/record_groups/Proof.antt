@@ -2,7 +2,7 @@ use borrow.Author.Rules.{rules}
 use mathlib.Core.Path.{refl}
 use native.Mathlib.Omega.{arith}
 use Rattle.emdf_format.specs.Syntax.{escape}
-use Rattle.emdf_payloads.specs.Payloads.{recordGroups}
+use Rattle.emdf_payloads.specs.Payloads.{record_groups}
 use Rattle.emdf_payload_list.proofs.record_groups.Statement.{statement}
 use Rattle.emdf_payload_list.proofs.record_groups.Tie as tie
 
@@ -29,7 +29,7 @@ larger-requires-3 : tie.Need-larger-requires-3
 larger-requires-3 c κs = search rules
 
 returns : tie.Need-returns
-unfolding recordGroups
+unfolding record_groups
 returns c =
     let b = c.before in
     let d = b.before in

@@ -1,8 +1,8 @@
 use borrow.Author.Rules.{rules}
 use mathlib.Core.Path.{sym, ◌∙◌}
 use Rattle.emdf_format.specs.Reader.{give}
-use Rattle.emdf_format.specs.Reading.{payloadAfter}
-use Rattle.emdf_payloads.specs.Payloads.{payloadAnswer}
+use Rattle.emdf_format.specs.Reading.{payload_after}
+use Rattle.emdf_payloads.specs.Payloads.{payload_answer}
 use Rattle.emdf_payloads.specs.declared.PayloadStep.TheVariants.{Refused}
 use Rattle.emdf_settings.proofs.Answers.{config-found, by-config}
 use Rattle.emdf_fields.proofs.Answers.{field_found, count-found, via, here, by_field, by_count}
@@ -23,8 +23,8 @@ config-error-requires : tie.Need-config-error-requires
 config-error-requires c κs = search rules
 
 returns : tie.Need-returns
-unfolding payloadAfter payloadAnswer give
-returns c = here payloadAnswer _ _ _ _ (by-config payloadAnswer Refused payload-refuses _ _ _ _ _ c.before.before.before.payload-config.ensures c.before.enum_told.given.1 c.config-error.ensures)
+unfolding payload_after payload_answer give
+returns c = here payload_answer _ _ _ _ (by-config payload_answer Refused payload-refuses _ _ _ _ _ c.before.before.before.payload-config.ensures c.before.enum_told.given.1 c.config-error.ensures)
 
 variable-field-requires : tie.Need-variable-field-requires
 variable-field-requires c κs = search rules
@@ -39,8 +39,8 @@ field-error-requires : tie.Need-field-error-requires
 field-error-requires c κs = search rules
 
 returns-2 : tie.Need-returns-2
-unfolding payloadAfter payloadAnswer give
-returns-2 c = here payloadAnswer _ _ _ _ (via payloadAnswer _ _ _ _ _ (config-found _ (sym c.before.before.before.before.before.before.before.payload-config.ensures ∙ c.before.before.before.before.before.a1.given.1)) (here payloadAnswer _ _ _ _ (by_field payloadAnswer Refused payload-refuses _ _ _ _ _ c.before.before.before.variable-field.ensures c.before.enum-told2.given.1 c.field-error.ensures)))
+unfolding payload_after payload_answer give
+returns-2 c = here payload_answer _ _ _ _ (via payload_answer _ _ _ _ _ (config-found _ (sym c.before.before.before.before.before.before.before.payload-config.ensures ∙ c.before.before.before.before.before.a1.given.1)) (here payload_answer _ _ _ _ (by_field payload_answer Refused payload-refuses _ _ _ _ _ c.before.before.before.variable-field.ensures c.before.enum-told2.given.1 c.field-error.ensures)))
 
 skip-octets-requires : tie.Need-skip-octets-requires
 skip-octets-requires c κs = search rules
@@ -55,15 +55,15 @@ count-error-requires : tie.Need-count-error-requires
 count-error-requires c κs = search rules
 
 returns-3 : tie.Need-returns-3
-unfolding payloadAfter payloadAnswer give
-returns-3 c = here payloadAnswer _ _ _ _ (via payloadAnswer _ _ _ _ _ (config-found _ (sym c.before.before.before.before.before.before.before.before.before.before.before.payload-config.ensures ∙ c.before.before.before.before.before.before.before.before.before.a1.given.1)) (here payloadAnswer _ _ _ _ (via payloadAnswer _ _ _ _ _ (field_found _ (sym c.before.before.before.before.before.before.before.variable-field.ensures ∙ c.before.before.before.before.before.a2.given.1)) (here payloadAnswer _ _ _ _ (by_count payloadAnswer Refused payload-refuses _ _ _ _ _ c.before.before.before.skip-octets.ensures c.before.enum-told3.given.1 c.count-error.ensures)))))
+unfolding payload_after payload_answer give
+returns-3 c = here payload_answer _ _ _ _ (via payload_answer _ _ _ _ _ (config-found _ (sym c.before.before.before.before.before.before.before.before.before.before.before.payload-config.ensures ∙ c.before.before.before.before.before.before.before.before.before.a1.given.1)) (here payload_answer _ _ _ _ (via payload_answer _ _ _ _ _ (field_found _ (sym c.before.before.before.before.before.before.before.variable-field.ensures ∙ c.before.before.before.before.before.a2.given.1)) (here payload_answer _ _ _ _ (by_count payload_answer Refused payload-refuses _ _ _ _ _ c.before.before.before.skip-octets.ensures c.before.enum-told3.given.1 c.count-error.ensures)))))
 
 bit-trace-requires : tie.Need-bit-trace-requires
 bit-trace-requires c κs = search rules
 
 returns-4 : tie.Need-returns-4
-unfolding payloadAfter payloadAnswer give
-returns-4 c = here payloadAnswer _ _ _ _ (via payloadAnswer _ _ _ _ _ (config-found _ (sym c.before.before.before.before.before.before.before.before.before.before.before.before.payload-config.ensures ∙ c.before.before.before.before.before.before.before.before.before.before.a1.given.1)) (here payloadAnswer _ _ _ _ (via payloadAnswer _ _ _ _ _ (field_found _ (sym c.before.before.before.before.before.before.before.before.variable-field.ensures ∙ c.before.before.before.before.before.before.a2.given.1)) (here payloadAnswer _ _ _ _ (via payloadAnswer _ _ _ _ _ (count-found _ _ (sym c.before.before.before.before.skip-octets.ensures ∙ c.before.before.a3.given.1)).2 (here payloadAnswer _ _ _ _ (rw c.bit-trace.ensures)))))))
+unfolding payload_after payload_answer give
+returns-4 c = here payload_answer _ _ _ _ (via payload_answer _ _ _ _ _ (config-found _ (sym c.before.before.before.before.before.before.before.before.before.before.before.before.payload-config.ensures ∙ c.before.before.before.before.before.before.before.before.before.before.a1.given.1)) (here payload_answer _ _ _ _ (via payload_answer _ _ _ _ _ (field_found _ (sym c.before.before.before.before.before.before.before.before.variable-field.ensures ∙ c.before.before.before.before.before.before.a2.given.1)) (here payload_answer _ _ _ _ (via payload_answer _ _ _ _ _ (count-found _ _ (sym c.before.before.before.before.skip-octets.ensures ∙ c.before.before.a3.given.1)).2 (here payload_answer _ _ _ _ (rw c.bit-trace.ensures)))))))
 
 pub after-by-fields-spec : {M : Type 1} → statement M
 after-by-fields-spec =

@@ -3,13 +3,13 @@ use mathlib.Core.Path.{◌≡◌, refl, sym, ap, ◌∙◌}
 use Prim.Native.Nat.{◌+◌, ◌*◌, ◌≤◌, ◌<◌}
 use native.Mathlib.Omega.{arith}
 use lib.Dec.{lit≤}
-use Rattle.openjoc_bitio.specs.Bits.{windowAt}
+use Rattle.openjoc_bitio.specs.Bits.{window_at}
 use Rattle.openjoc_bitio.proofs.Bits.{window-range}
-use Rattle.emdf_format.proofs.Standing.{bitLimit, remaining-limit}
-use Rattle.emdf_compact.specs.Words.{sizeLength, sizeValue}
+use Rattle.emdf_format.proofs.Standing.{bit_limit, remaining-limit}
+use Rattle.emdf_compact.specs.Words.{size_length, size_value}
 use Rattle.emdf_fields.proofs.Word.{Word, word-window}
 use Rattle.emdf_compact.proofs.Compact.{config-most, size-most, value-most}
-use Rattle.emdf_payloads.specs.Payloads.{payloadAnswer}
+use Rattle.emdf_payloads.specs.Payloads.{payload_answer}
 use Rattle.emdf_payloads.proofs.Compact.{after-found}
 use Rattle.emdf_payloads.proofs.after_compact.Statement.{statement}
 use Rattle.emdf_payloads.proofs.after_compact.Tie as tie
@@ -53,20 +53,20 @@ bit-trace-requires : tie.Need-bit-trace-requires
 bit-trace-requires c κs = search rules
 
 returns : tie.Need-returns
-unfolding payloadAnswer
+unfolding payload_answer
 returns c =
     let a = c.before.before.before.before.before.before.before.before.before.args in
     let i = c.before.before.before.before.before.before.before.before.before.requires in
     let z = a.position + a.config in
-    let w = windowAt a.s.now z in
+    let w = window_at a.s.now z in
     let y : c.before.before.before.before.before.before.before.window-at.result ≡ w = c.before.before.before.before.before.before.before.window-at.ensures in
-    let k : c.before.before.before.before.before.before.size-length.result ≡ sizeLength w = c.before.before.before.before.before.before.size-length.ensures ∙ ap sizeLength y in
-    let n : c.before.before.before.before.size-value.result ≡ sizeValue w = c.before.before.before.before.size-value.ensures ∙ ap sizeValue y in
-    let some : 0 < sizeLength w = omega (arith, k) in
-    let room : z + sizeLength w + sizeValue w * 8 ≤ bitLimit a.s.now a.end = omega (arith, k, n, c.before.before.before.bits-remaining.ensures, remaining-limit a.s.now a.end a.position) in
+    let k : c.before.before.before.before.before.before.size-length.result ≡ size_length w = c.before.before.before.before.before.before.size-length.ensures ∙ ap size_length y in
+    let n : c.before.before.before.before.size-value.result ≡ size_value w = c.before.before.before.before.size-value.ensures ∙ ap size_value y in
+    let some : 0 < size_length w = omega (arith, k) in
+    let room : z + size_length w + size_value w * 8 ≤ bit_limit a.s.now a.end = omega (arith, k, n, c.before.before.before.bits-remaining.ensures, remaining-limit a.s.now a.end a.position) in
     let x : Word a.s.now a.position 57 a.x = rw i.1 (word-window a.s.now a.position) in
     rw (c.bit-trace.ensures, c.before.compact-config.ensures, k, n)
-    (sym (ap (payloadAnswer a.end) (after-found x (lit≤ tt) (lit≤ tt) a.end a.start a.id i.2 some (omega (arith, i.3)) refl refl room)))
+    (sym (ap (payload_answer a.end) (after-found x (lit≤ tt) (lit≤ tt) a.end a.start a.id i.2 some (omega (arith, i.3)) refl refl room)))
 
 after-by-fields-requires : tie.Need-after-by-fields-requires
 after-by-fields-requires c κs = search rules

@@ -3,15 +3,15 @@ use mathlib.Core.Path.{◌≡◌}
 use Prim.Native.Nat.{ℕ, ◌+◌, ◌^◌, ◌<◌}
 use mathlib.Core.List.{List}
 use native.Mathlib.Omega.{arith}
-use Rattle.emdf_format.specs.Reader.{cursorAt}
-use Rattle.emdf_payloads.specs.Compact.{CompactAt, notCompact}
+use Rattle.emdf_format.specs.Reader.{cursor_at}
+use Rattle.emdf_payloads.specs.Compact.{CompactAt, not_compact}
 use Rattle.emdf_payloads.specs.declared.CompactPayload.{CompactPayload}
 use Rattle.emdf_payloads.proofs.Compact.{compact-there, compact-groups, parts-most}
 use Rattle.emdf_payloads.proofs.compact_at.Statement.{statement}
 use Rattle.emdf_payloads.proofs.compact_at.Tie as tie
 
 -- nothing is said of what has no bits
-nothing : (s : List ℕ) (e p : ℕ) {r : CompactPayload} → p < 2 ^ 64 → r ≡ notCompact → CompactAt s e p r
+nothing : (s : List ℕ) (e p : ℕ) {r : CompactPayload} → p < 2 ^ 64 → r ≡ not_compact → CompactAt s e p r
 nothing s e p l i =
     rw i (record {
       is = λ h. absurd (omega (arith, h));
@@ -43,7 +43,7 @@ returns-2 c = nothing _ _ _ (omega arith) c.not-compact2.ensures
 returns-3 : tie.Need-returns-3
 returns-3 c =
     let a = c.before.before.before.before.before.before.args in
-    let at = cursorAt a.end a.position in
+    let at = cursor_at a.end a.position in
     let i = c.before.before.before.compact-parts.ensures in
     let (head, size, length) = parts-most a.s.now at in
     record {

@@ -2,7 +2,7 @@ use borrow.Author.Rules.{rules}
 use borrow.Author.Tests.{eq-eqb, ne_eqb}
 use mathlib.Core.Path.{◌≡◌, sym, ◌∙◌}
 use native.Mathlib.Omega.{arith}
-use Rattle.emdf_payloads.specs.Compact.{compactStep}
+use Rattle.emdf_payloads.specs.Compact.{compact_step}
 use Rattle.emdf_payloads.proofs.next_payload.Statement.{statement}
 use Rattle.emdf_payloads.proofs.next_payload.Tie as tie
 
@@ -19,7 +19,7 @@ add-t9 : tie.Need-overflow-add-t9
 add-t9 c = omega (arith, c.before.before.before.compact-at.ensures.fits)
 
 returns-2 : tie.Need-returns-2
-unfolding compactStep
+unfolding compact_step
 returns-2 c = sym (c.before.before.before.before.before.compact-at.ensures.is (omega arith) ∙ rw (eq-eqb _ 0 c.if2.true))
 
 compact-record-requires : tie.Need-compact-record-requires
@@ -28,7 +28,7 @@ compact-record-requires c κs =
     (n.head, n.size, n.near (omega arith), n.fits)
 
 returns-3 : tie.Need-returns-3
-unfolding compactStep
+unfolding compact_step
 returns-3 c =
     rw c.compact-record.ensures (sym (c.before.before.before.before.before.before.compact-at.ensures.is (omega arith) ∙ rw (ne_eqb _ 0 c.before.if2.false)))
 

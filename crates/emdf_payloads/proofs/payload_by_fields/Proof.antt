@@ -5,7 +5,7 @@ use borrow.Author.Tests.{eq-eqb, ne_eqb}
 use Rattle.emdf_format.proofs.Standing.{T_of, T-not-of}
 use Rattle.emdf_format.specs.Syntax.{escape}
 use Rattle.emdf_format.specs.Reader.{give}
-use Rattle.emdf_payloads.specs.Payloads.{nextPayload, nextAnswer, nextStep}
+use Rattle.emdf_payloads.specs.Payloads.{next_payload, next_answer, next_step}
 use Rattle.emdf_payloads.specs.declared.PayloadStep.TheVariants.{Refused}
 use Rattle.emdf_fields.proofs.Answers.{field_found, via, here, this, that, by_field}
 use Rattle.emdf_payloads.proofs.Answers.{turn-refuses, turn-payload}
@@ -26,19 +26,19 @@ field-error-requires : tie.Need-field-error-requires
 field-error-requires c κs = search rules
 
 returns : tie.Need-returns
-unfolding nextPayload nextAnswer nextStep give
-returns c = here nextAnswer _ _ _ _ (by_field nextAnswer Refused turn-refuses _ _ _ _ _ c.before.before.before.extended-value.ensures c.before.enum_told.given.1 c.field-error.ensures)
+unfolding next_payload next_answer next_step give
+returns c = here next_answer _ _ _ _ (by_field next_answer Refused turn-refuses _ _ _ _ _ c.before.before.before.extended-value.ensures c.before.enum_told.given.1 c.field-error.ensures)
 
 returns-2 : tie.Need-returns-2
-unfolding nextPayload nextAnswer nextStep give
-returns-2 c = here nextAnswer _ _ _ _ (via nextAnswer _ _ _ _ _ (field_found _ (sym c.before.before.before.before.extended-value.ensures ∙ c.before.before.a.given.1)) (this nextAnswer _ _ _ _ _ _ (T_of (eq-eqb _ _ c.if1.true)) refl))
+unfolding next_payload next_answer next_step give
+returns-2 c = here next_answer _ _ _ _ (via next_answer _ _ _ _ _ (field_found _ (sym c.before.before.before.before.extended-value.ensures ∙ c.before.before.a.given.1)) (this next_answer _ _ _ _ _ _ (T_of (eq-eqb _ _ c.if1.true)) refl))
 
 payload-after-requires : tie.Need-payload-after-requires
 payload-after-requires c κs = search rules
 
 returns-3 : tie.Need-returns-3
-unfolding nextPayload nextAnswer nextStep give
-returns-3 c = here nextAnswer _ _ _ _ (via nextAnswer _ _ _ _ _ (field_found _ (sym c.before.before.before.before.before.extended-value.ensures ∙ c.before.before.before.a.given.1)) (that nextAnswer _ _ _ _ _ _ (T-not-of (ne_eqb _ _ c.before.if1.false)) (turn-payload _ _ _ _ c.payload-after.ensures)))
+unfolding next_payload next_answer next_step give
+returns-3 c = here next_answer _ _ _ _ (via next_answer _ _ _ _ _ (field_found _ (sym c.before.before.before.before.before.extended-value.ensures ∙ c.before.before.before.a.given.1)) (that next_answer _ _ _ _ _ _ (T-not-of (ne_eqb _ _ c.before.if1.false)) (turn-payload _ _ _ _ c.payload-after.ensures)))
 
 pub payload-by-fields-spec : {M : Type 1} → statement M
 payload-by-fields-spec =

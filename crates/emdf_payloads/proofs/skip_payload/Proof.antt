@@ -3,8 +3,8 @@ use borrow.Author.Tests.{eq-eqb, ne_eqb}
 use mathlib.Core.Path.{ap, ◌∙◌}
 use native.Mathlib.Omega.{arith}
 use Rattle.emdf_fields.specs.Word.{top}
-use Rattle.emdf_payloads.specs.Compact.{compactStep}
-use Rattle.emdf_payloads.specs.Payloads.{skipOf}
+use Rattle.emdf_payloads.specs.Compact.{compact_step}
+use Rattle.emdf_payloads.specs.Payloads.{skip_of}
 use Rattle.emdf_payloads.proofs.skip_payload.Statement.{statement}
 use Rattle.emdf_payloads.proofs.skip_payload.Tie as tie
 
@@ -18,19 +18,19 @@ skipped-requires : tie.Need-skipped-requires
 skipped-requires c κs = search rules
 
 returns : tie.Need-returns
-returns c = c.skipped.ensures ∙ ap skipOf c.before.payload-by-fields.ensures
+returns c = c.skipped.ensures ∙ ap skip_of c.before.payload-by-fields.ensures
 
 add-t11 : tie.Need-overflow-add-t11
 add-t11 c = omega (arith, c.before.before.before.compact-at.ensures.fits)
 
 returns-2 : tie.Need-returns-2
-unfolding compactStep skipOf
+unfolding compact_step skip_of
 returns-2 c =
     let d = c.before.before.before.before.before.compact-at in
     rw (d.ensures.is (omega arith), eq-eqb (top 5 d.result.word) 0 c.if2.true)
 
 returns-3 : tie.Need-returns-3
-unfolding compactStep skipOf
+unfolding compact_step skip_of
 returns-3 c =
     let d = c.before.before.before.before.before.compact-at in
     rw (d.ensures.is (omega arith), ne_eqb (top 5 d.result.word) 0 c.if2.false)

@@ -3,8 +3,8 @@ use borrow.Author.Rules.{rules}
 use mathlib.Core.Path.{◌≡◌, ap, ◌∙◌}
 use native.Mathlib.Omega.{arith}
 use Rattle.openjoc_bitio.specs.declared.BitCursor.{BitCursor}
-use Rattle.emdf_payloads.specs.Payloads.{stepAt}
-use Rattle.emdf_plan.specs.Walking.{pastPayloads, placed_at}
+use Rattle.emdf_payloads.specs.Payloads.{step_at}
+use Rattle.emdf_plan.specs.Walking.{past_payloads, placed_at}
 use Rattle.emdf_plan.specs.declared.Placed.{Placed}
 use Rattle.emdf_plan.proofs.Opening.{octets, count, end_fits, laid}
 use Rattle.emdf_plan.proofs.lay_out.Statement.{statement}
@@ -12,8 +12,8 @@ use Rattle.emdf_plan.proofs.lay_out.Tie as tie
 
 -- the end mark stands past the payload at the place, and those after it
 marked : (c : tie.After-skip-payloads2) → let a = c.before.before.before.before.before.before.args in
-    let at : BitCursor = pastPayloads a.source.now a.first a.place in
-    c.skip-payloads2.result ≡ pastPayloads a.source.now (placed_at (stepAt a.source.now at) at).next (a.parsed.container.payloads - 1 - a.place)
+    let at : BitCursor = past_payloads a.source.now a.first a.place in
+    c.skip-payloads2.result ≡ past_payloads a.source.now (placed_at (step_at a.source.now at) at).next (a.parsed.container.payloads - 1 - a.place)
 marked c =
     let b = c.before in
     let d = b.before.before in
@@ -21,9 +21,9 @@ marked c =
     let s = a.source.now in
     let n : ℕ = a.parsed.container.payloads - 1 - a.place in
     c.skip-payloads2.ensures
-    ∙ ap (λ (k : ℕ). pastPayloads s d.place_at.result.next k) b.places-after.ensures
-    ∙ ap (λ (x : Placed). pastPayloads s x.next n) d.place_at.ensures
-    ∙ ap (λ (at : BitCursor). pastPayloads s (placed_at (stepAt s at) at).next n) d.before.skip-payloads.ensures
+    ∙ ap (λ (k : ℕ). past_payloads s d.place_at.result.next k) b.places-after.ensures
+    ∙ ap (λ (x : Placed). past_payloads s x.next n) d.place_at.ensures
+    ∙ ap (λ (at : BitCursor). past_payloads s (placed_at (step_at s at) at).next n) d.before.skip-payloads.ensures
 
 -- where the container ends
 fits : (c : tie.After-skip-payloads2) → c.skip-payloads2.result.position + 5 + 4 + 8 * octets c.before.before.before.before.before.before.args.parsed ≤ 8 * 65539

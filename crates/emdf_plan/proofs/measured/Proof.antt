@@ -3,7 +3,7 @@ use mathlib.Core.Path.{◌≡◌, refl, ap}
 use Prim.Native.Nat.{◌+◌, ◌-◌, ◌*◌, ◌/◌}
 use native.Mathlib.Omega.{arith}
 use Rattle.openjoc_bitio.specs.declared.BitOffset.{BitOffset}
-use Rattle.emdf_plan.specs.Plan.{edgeAt, cut_at, sizeAfter}
+use Rattle.emdf_plan.specs.Plan.{edge_at, cut_at, size_after}
 use Rattle.emdf_plan.proofs.Asking.{too_long, no_room, in-room}
 use Rattle.emdf_plan.proofs.measured.Statement.{statement}
 use Rattle.emdf_plan.proofs.measured.Tie as tie
@@ -12,19 +12,19 @@ use Rattle.emdf_plan.proofs.measured.Tie as tie
 abbrev start : tie.After-end → tie.Start
 start c = c.before.before.before.before.before
 
-from_is : (c : tie.After-end) → c.before.before.before.edge_at.result.0 ≡ (edgeAt (start c).args.stretch.from (start c).args.layout).0
+from_is : (c : tie.After-end) → c.before.before.before.edge_at.result.0 ≡ (edge_at (start c).args.stretch.from (start c).args.layout).0
 from_is c = ap (λ (o : BitOffset). o.0) c.before.before.before.edge_at.ensures
 
-to_is : (c : tie.After-end) → c.before.before.edge-at2.result.0 ≡ (edgeAt (start c).args.stretch.to (start c).args.layout).0
+to_is : (c : tie.After-end) → c.before.before.edge-at2.result.0 ≡ (edge_at (start c).args.stretch.to (start c).args.layout).0
 to_is c = ap (λ (o : BitOffset). o.0) c.before.before.edge-at2.ensures
 
 sized : (c : tie.After-end) → let k = start c in
-    (k.args.layout.end.0 - 32 - (c.before.before.edge-at2.result.0 - c.before.before.before.edge_at.result.0) + k.args.brought.fields + 8 * k.args.brought.octets + 7) / 8 ≡ sizeAfter k.args.stretch k.args.layout k.args.brought
-unfolding sizeAfter
+    (k.args.layout.end.0 - 32 - (c.before.before.edge-at2.result.0 - c.before.before.before.edge_at.result.0) + k.args.brought.fields + 8 * k.args.brought.octets + 7) / 8 ≡ size_after k.args.stretch k.args.layout k.args.brought
+unfolding size_after
 sized c = omega (arith, from_is c, to_is c)
 
 returns : tie.Need-returns
-unfolding sizeAfter
+unfolding size_after
 returns c = too_long _ _ _ _ _ refl (omega (arith, c.if1.true))
 
 edge-at-requires : tie.Need-edge-at-requires

@@ -2,11 +2,11 @@ use borrow.Author.Rules.{rules}
 use mathlib.Core.Path.{◌≡◌, ap, ◌∙◌}
 use mathlib.Core.Bool.{true}
 use lib.ListN.{length}
-use Rattle.emdf_format.specs.Edits.{Edit, placeExists}
+use Rattle.emdf_format.specs.Edits.{Edit, place_exists}
 use Rattle.emdf_format.specs.Reading.{Container}
 use Rattle.emdf_format.proofs.Standing.{fails, holds}
 use Rattle.emdf_request.specs.declared.Brought.{Brought}
-use Rattle.emdf_request.specs.Requests.{editOf, bringing}
+use Rattle.emdf_request.specs.Requests.{edit_of, bringing}
 use Rattle.emdf_request.proofs.Requests.{same_place, place_in}
 use Rattle.emdf_plan.specs.Plan.{laid}
 use Rattle.emdf_plan.proofs.Asking.{trailing, no_place, not-writable, cut_in, measures}
@@ -15,7 +15,7 @@ use Rattle.emdf_plan.proofs.plan_opened.Statement.{statement}
 use Rattle.emdf_plan.proofs.plan_opened.Tie as tie
 
 abbrev edit : tie.Start → Edit
-edit b = editOf b.args.request b.args.octets.now b.args.secondary.now
+edit b = edit_of b.args.request b.args.octets.now b.args.secondary.now
 
 abbrev brought : tie.Start → Brought
 brought b = (bringing b.args.request b.args.octets.now b.args.secondary.now).brought
@@ -26,10 +26,10 @@ inside b = b.requires.container
 abbrev begin : tie.After-place-exists → tie.Start
 begin c = c.before.before.before.before.before.before
 
-exists : (c : tie.After-place-exists) → c.place-exists.result ≡ placeExists (edit (begin c)) (length (inside (begin c)).found)
-exists c = let b = begin c in c.place-exists.ensures ∙ same_place _ _ _ _ ∙ ap (placeExists (edit b)) (count b.pre)
+exists : (c : tie.After-place-exists) → c.place-exists.result ≡ place_exists (edit (begin c)) (length (inside (begin c)).found)
+exists c = let b = begin c in c.place-exists.ensures ∙ same_place _ _ _ _ ∙ ap (place_exists (edit b)) (count b.pre)
 
-there : (c : tie.Else2) → let b = begin c.before in placeExists (edit b) (length (inside b).found) ≡ true
+there : (c : tie.Else2) → let b = begin c.before in place_exists (edit b) (length (inside b).found) ≡ true
 there c = holds c.if2.false (exists c.before)
 
 abbrev begun : tie.After-brought-by → tie.Start

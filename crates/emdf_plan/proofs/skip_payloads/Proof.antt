@@ -2,12 +2,12 @@ use mathlib.Core.Path.{◌≡◌, refl}
 use Prim.Native.Nat.{suc, ◌-◌}
 use borrow.Author.Rules.{rules}
 use native.Mathlib.Omega.{arith}
-use Rattle.emdf_plan.specs.Walking.{pastPayloads}
+use Rattle.emdf_plan.specs.Walking.{past_payloads}
 use Rattle.emdf_plan.proofs.skip_payloads.Statement.{statement}
 use Rattle.emdf_plan.proofs.skip_payloads.Tie as tie
 
 abbrev invariant-loop : tie.invariant-loop
-invariant-loop source n at₀ left₀ at left = pastPayloads source at left ≡ pastPayloads source at₀ left₀
+invariant-loop source n at₀ left₀ at left = past_payloads source at left ≡ past_payloads source at₀ left₀
 
 abbrev decreases-loop : tie.decreases-loop
 decreases-loop source n at₀ left₀ at left = left
@@ -28,14 +28,14 @@ loop-less : tie.Need-loop-smaller invariant-loop decreases-loop
 loop-less c = search rules
 
 loop-again : tie.Need-loop-preserved invariant-loop decreases-loop
-unfolding pastPayloads
+unfolding past_payloads
 loop-again c =
     let l = c.before.before.before.loop in
     let z : l.left ≡ suc (l.left - 1) = omega arith in
     rw (c.past.ensures, c.before.skip-payload.ensures) (rw z at l.invariant)
 
 returns : tie.Need-returns invariant-loop decreases-loop
-unfolding pastPayloads
+unfolding past_payloads
 returns c =
     let z : c.before.loop.left ≡ 0 = omega arith in
     rw z at c.before.loop.invariant

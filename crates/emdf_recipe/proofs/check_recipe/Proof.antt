@@ -4,7 +4,7 @@ use Prim.Native.Nat.{◌<◌}
 use native.Mathlib.Omega.{arith}
 use borrow.Author.Tests.{lt-leb, le-leb}
 use Rattle.openjoc_bitio.proofs.Bits.{value-range}
-use Rattle.emdf_recipe.specs.File.{recipeOf, editsAfter}
+use Rattle.emdf_recipe.specs.File.{recipe_of, edits_after}
 use Rattle.emdf_recipe.proofs.File.{Going, above, link-next, rises-above, going_start, going_on, going-broken, going_end}
 use Rattle.emdf_recipe.proofs.check_recipe.Statement.{statement}
 use Rattle.emdf_recipe.proofs.check_recipe.Tie as tie
@@ -16,7 +16,7 @@ abbrev decreases-loop : tie.decreases-loop
 decreases-loop file count i₀ edits₀ i edits = above count i
 
 returns : tie.Need-returns invariant-loop decreases-loop
-unfolding recipeOf editsAfter
+unfolding recipe_of edits_after
 returns c = simp (lt-leb 4 _ c.if1.true)
 
 octets-number-requires : tie.Need-octets-number-requires invariant-loop decreases-loop
@@ -26,7 +26,7 @@ octets-number-requires-2 : tie.Need-octets-number-requires-2 invariant-loop decr
 octets-number-requires-2 c κs = search rules
 
 returns-2 : tie.Need-returns-2 invariant-loop decreases-loop
-unfolding recipeOf editsAfter
+unfolding recipe_of edits_after
 returns-2 c = simp (le-leb 4 _ c.before.before.before.if1.false, lt-leb _ _ (rw (c.before.before.octets-number.ensures, c.before.octets-number2.ensures) at c.if2.true))
 
 loop-holds : tie.Need-loop-init invariant-loop decreases-loop

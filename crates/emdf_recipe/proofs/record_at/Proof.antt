@@ -1,5 +1,5 @@
 use borrow.Author.Rules.{rules}
-use Rattle.emdf_recipe.specs.File.{recordAt}
+use Rattle.emdf_recipe.specs.File.{record_at}
 use Rattle.emdf_recipe.proofs.record_at.Statement.{statement}
 use Rattle.emdf_recipe.proofs.record_at.Tie as tie
 
@@ -43,7 +43,7 @@ octets-number-requires-6 : tie.Need-octets-number-requires-6
 octets-number-requires-6 c κs = search rules
 
 returns : tie.Need-returns
-unfolding recordAt
+unfolding record_at
 returns c = rw (c.before.before.before.before.before.octets-number.ensures, c.before.before.before.before.octets-number2.ensures, c.before.before.before.octets-number3.ensures, c.before.before.octets-number4.ensures, c.before.octets-number5.ensures, c.octets-number6.ensures)
 
 pub record-at-spec : {M : Type 1} → statement M

@@ -6,9 +6,9 @@ use native.Mathlib.Omega.{arith}
 use lib.ListN.{length}
 use Rattle.openjoc_bitio.proofs.Bits.{value-range}
 use Rattle.emdf_recipe.specs.declared.RecipeRecord.{RecipeRecord}
-use Rattle.emdf_recipe.specs.File.{recordCount}
+use Rattle.emdf_recipe.specs.File.{record_count}
 use Rattle.emdf_recipe.proofs.File.{Chained, above, record-small}
-use Rattle.emdf_recipe_run.specs.Runs.{begun, begunAnswer}
+use Rattle.emdf_recipe_run.specs.Runs.{begun, begun_answer}
 use Rattle.emdf_recipe_run.proofs.Runs.{span-inside, asked, Running, running-start, here, rising, running-go, running-end}
 use Rattle.emdf_recipe_run.proofs.run_chain.Statement.{statement}
 use Rattle.emdf_recipe_run.proofs.run_chain.Tie as tie
@@ -18,13 +18,13 @@ invariant-loop start file first₀ second₀ i₀ state₀ first second i state 
     Running start file first₀ second₀ i (record { answer = state; first = first; second = second }) × (i < 65536)
 
 abbrev decreases-loop : tie.decreases-loop
-decreases-loop start file first₀ second₀ i₀ state₀ first second i state = above (recordCount file) i
+decreases-loop start file first₀ second₀ i₀ state₀ first second i state = above (record_count file) i
 
 -- the record at which a turn stands
 abbrev S : tie.In-loop invariant-loop decreases-loop → List ℕ
 S c = c.before.before.before.before.before.before.before.args.file.now
 
-this : (c : tie.In-loop invariant-loop decreases-loop) → Chained (S c) (recordCount (S c)) c.before.loop.i c.before.loop.invariant.0.left
+this : (c : tie.In-loop invariant-loop decreases-loop) → Chained (S c) (record_count (S c)) c.before.loop.i c.before.loop.invariant.0.left
 this c = here _ _ _ _ _ _ c.before.loop.invariant.0 c.loop-test.true
 
 -- its bytes lie in the file
@@ -39,7 +39,7 @@ octets-number-requires : tie.Need-octets-number-requires invariant-loop decrease
 octets-number-requires c κs = search rules
 
 loop-holds : tie.Need-loop-init invariant-loop decreases-loop
-unfolding begun begunAnswer
+unfolding begun begun_answer
 loop-holds c = rw c.octets-number.ensures (running-start _ _ _ _ c.before.before.before.before.before.requires, value-range _ _ 16)
 
 record-at-requires : tie.Need-record-at-requires invariant-loop decreases-loop

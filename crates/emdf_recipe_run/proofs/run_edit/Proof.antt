@@ -2,7 +2,7 @@ use borrow.Author.Rules.{rules}
 use lib.Seq.{length-take-le}
 use mathlib.Core.Path.{sym}
 use Rattle.emdf_recipe_run.specs.declared.Holder.TheVariants.{Start, First, Second}
-use Rattle.emdf_recipe_run.specs.Runs.{source, target, firstAfter, secondAfter, Lies}
+use Rattle.emdf_recipe_run.specs.Runs.{source, target, first_after, second_after, Lies}
 use Rattle.emdf_recipe_run.proofs.Runs.{landed}
 use Rattle.emdf_recipe_run.proofs.run_edit.Statement.{statement}
 use Rattle.emdf_recipe_run.proofs.run_edit.Tie as tie
@@ -55,7 +55,7 @@ same_length : tie.Need-same-length
 same_length c = search rules
 
 returns : tie.Need-returns
-unfolding source target firstAfter secondAfter
+unfolding source target first_after second_after
 returns c = rw c.count-in.ensures (landed _ _ _ Start c.before.before.before.before.before.enum_told.given.1 c.before.before.before.apply.ensures)
 
 same-length-2 : tie.Need-same-length-2
@@ -65,7 +65,7 @@ same-length-3 : tie.Need-same-length-3
 same-length-3 c = search rules
 
 returns-2 : tie.Need-returns-2
-unfolding source target firstAfter secondAfter
+unfolding source target first_after second_after
 returns-2 c = rw c.count-in2.ensures (landed _ _ _ First c.before.before.before.before.before.before.enum-told2.given.1 c.before.before.before.apply2.ensures)
 
 same-length-4 : tie.Need-same-length-4
@@ -75,7 +75,7 @@ same-length-5 : tie.Need-same-length-5
 same-length-5 c = search rules
 
 returns-3 : tie.Need-returns-3
-unfolding source target firstAfter secondAfter
+unfolding source target first_after second_after
 returns-3 c = rw c.count-in3.ensures (landed _ _ _ Second c.before.before.before.before.before.before.enum-told3.given.1 c.before.before.before.apply3.ensures)
 
 pub run-edit-spec : {M : Type 1} → statement M

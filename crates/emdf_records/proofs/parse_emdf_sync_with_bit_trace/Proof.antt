@@ -51,21 +51,21 @@ use denote.Exit.{yes}
 use denote.Signature.{plain}
 use Rattle.openjoc_bitio.specs.declared.BitCursor.{BitCursor}
 use Rattle.emdf_format.specs.Reading.{reading}
-use Rattle.emdf_format.specs.Calls.{tableAfter}
+use Rattle.emdf_format.specs.Calls.{table_after}
 use Rattle.emdf_format.specs.declared.PayloadRecord.{PayloadRecord}
 use Rattle.emdf_format.specs.declared.PayloadRow.{PayloadRow}
 use Rattle.emdf_payloads.specs.declared.PayloadStep.{PayloadStep}
 use Rattle.emdf_payloads.specs.declared.PayloadStep.TheVariants.{Payload, End, Refused}
-use Rattle.emdf_payloads.specs.Payloads.{stepAt}
+use Rattle.emdf_payloads.specs.Payloads.{step_at}
 use Rattle.emdf_records_plan.specs.declared.RecordsPlan.{RecordsPlan}
 use Rattle.emdf_records_plan.proofs.Records.{inside, never-ended, never-refused, plan-is}
-use Rattle.emdf_records_row.specs.Row.{rowAfter}
-use Rattle.emdf_records_row.proofs.Row.{Record, recordVal, record-made, record-id, Row}
-use Rattle.emdf_records.proofs.Row.{recordName, behindIdTys, recordTy, record-typed, rowTy, Cursor, cursorTy, cursorVal, cursor-made, cursor-typed, Step, stepName, otherSteps, stepTy, step-record-at, step-cursor-at, stepVal, step-tells, step_typed, step-payload, step-record, step-cursor, Answer, answerTy, answer_val, answer-made, answer_typed, Plan, planName, planTy, plan-first-at, plan-answer-at, planVal, plan-tells, plan-typed, plan-answer, plan-first}
+use Rattle.emdf_records_row.specs.Row.{row_after}
+use Rattle.emdf_records_row.proofs.Row.{Record, record_val, record-made, record-id, Row}
+use Rattle.emdf_records.proofs.Row.{record_name, behind_id_tys, record_ty, record-typed, row_ty, Cursor, cursor_ty, cursor_val, cursor-made, cursor-typed, Step, step_name, other_steps, step_ty, step-record-at, step-cursor-at, step_val, step-tells, step_typed, step-payload, step-record, step-cursor, Answer, answer_ty, answer_val, answer-made, answer_typed, Plan, plan_name, plan_ty, plan-first-at, plan-answer-at, plan_val, plan-tells, plan-typed, plan-answer, plan-first}
 use Rattle.emdf_records.proofs.Again.{LentAgain, lends_again, comes_back}
 use Rattle.emdf_records.proofs.LocalArray.{repeat-is, row-of-array, room_of_row, LentRow, lends_row, row_back}
-use Rattle.emdf_ordinals.specs.Rows.{searched, slotsWith}
-use Rattle.emdf_records.proofs.Fill.{plan, done as left_by, State, room as plan-room, noSlots, start, some_left, new_is, rows-within, asked, next, nearer, over}
+use Rattle.emdf_ordinals.specs.Rows.{searched, slots_with}
+use Rattle.emdf_records.proofs.Fill.{plan, done as left_by, State, room as plan-room, no_slots, start, some_left, new_is, rows-within, asked, next, nearer, over}
 use Rattle.emdf_records_plan.specs.contracts.plan_records as planner
 use Rattle.emdf_records_plan.proofs.plan_records.Symbol as planner-def
 use Rattle.emdf_records_plan.proofs.plan_records.Symbol.{name as #emdf-records-plan·plan-records}
@@ -100,24 +100,24 @@ abbrev table : Ty
 table = slice_ty (ty_ref (named 1) mut (pointee Row.written))
 
 -- the reborrow's types: a local's lifetimes are erased
-abbrev tableRefᵉ : Ty
-tableRefᵉ = ty_ref erased mut (pointee Row.written)
+abbrev table_refᵉ : Ty
+table_refᵉ = ty_ref erased mut (pointee Row.written)
 
 abbrev tableᵉ : Ty
-tableᵉ = slice_ty tableRefᵉ
+tableᵉ = slice_ty table_refᵉ
 
-abbrev slotsTy : Ty
-slotsTy = ty_array word 512
+abbrev slots_ty : Ty
+slots_ty = ty_array word 512
 
-abbrev slotsRefᵉ : Ty
-slotsRefᵉ = ty_ref erased mut slotsTy
+abbrev slots_refᵉ : Ty
+slots_refᵉ = ty_ref erased mut slots_ty
 
 abbrev slotsᵉ : Ty
 slotsᵉ = slice_ty (ty_ref erased mut word)
 
 -- a turn: the test, the step and what it found, the rows to search, the row; and what runs after the loop
 abbrev puts : Body
-puts = seq (assign (place 16 []) (addr_of (place 2 (field 0 ∷ deref rowTy ∷ []))))
+puts = seq (assign (place 16 []) (addr_of (place 2 (field 0 ∷ deref row_ty ∷ []))))
     (seq (assign (place 17 []) (aggregate (copy (place 16 []) ∷ copy (place 2 (field 1 ∷ [])) ∷ [])))
     (seq (call "emdf_records_row::put_row" (copy (place 17 []) ∷ copy (place 5 []) ∷ copy (place 10 []) ∷ copy (place 8 []) ∷ []) (place 15 []))
     (seq (assign (place 6 []) (rv_opd (copy (place 9 []))))
@@ -203,7 +203,7 @@ module _ {M : Type 1} {𝓤 : Ura M} (𝓛 : Logic 𝓤) (mem : Memory → SProp
   abbrev planning : RecordsPlan
   planning = plan sx.now xs
 
-  exits : (l : List PayloadRow) → Is Answer planning.answer (answer_val planning.answer ∷ []) → length l ≡ length xs → l ≡ tableAfter (left_by sx.now xs) xs
+  exits : (l : List PayloadRow) → Is Answer planning.answer (answer_val planning.answer ∷ []) → length l ≡ length xs → l ≡ table_after (left_by sx.now xs) xs
       → ent 𝓤 (⋆ 𝓛 (‵ (Mown l) ∷ ‵ (flft κ₁ q₁) ∷ ‵ (flft κ₀ q₀) ∷ ‵ Own ∷ [])) (Post (answer_val planning.answer))
   exits l is len e =
       qed 𝓛 (‵ (Mown l) ∷ ‵ (flft κ₁ q₁) ∷ ‵ (flft κ₀ q₀) ∷ ‵ Own ∷ []) ∵
@@ -226,15 +226,15 @@ module _ {M : Type 1} {𝓤 : Ura M} (𝓛 : Logic 𝓤) (mem : Memory → SProp
 
   -- the call of payload_at at the cursor c
   abbrev to_step : BitCursor → (StepAt 𝓛 mem run).Ghost
-  to_step c = (((κ₀, tt), (q₀, tt), tt, (sx, (c, tt)), (sv ∷ [], (cursorVal c ∷ [], tt))), tt)
+  to_step c = (((κ₀, tt), (q₀, tt), tt, (sx, (c, tt)), (sv ∷ [], (cursor_val c ∷ [], tt))), tt)
 
-  goes_step : (c : BitCursor) → Is Cursor c (cursorVal c ∷ []) → ent 𝓤 (sep 𝓤 (A.lft κ₀ q₀) (sem 𝓛 Own)) ((StepAt 𝓛 mem run).pre (to_step c))
+  goes_step : (c : BitCursor) → Is Cursor c (cursor_val c ∷ []) → ent 𝓤 (sep 𝓤 (A.lft κ₀ q₀) (sem 𝓛 Own)) ((StepAt 𝓛 mem run).pre (to_step c))
   goes_step c is =
       qed 𝓛 (‵ (flft κ₀ q₀) ∷ ‵ Own ∷ []) ∵ nothing ! $ owned ! Cursor (Is Cursor) (cursor-made 𝓛) c _ is $ fjoin ! $ move ! (2 ∷ 0 ∷ []) $ fjoin ! $
       nothing ! $ move ! (2 ∷ 0 ∷ []) $ join ! $ join ! $ frame ! $ done !
 
-  said-step : (c : BitCursor) (g : PayloadStep) → ent 𝓤 (ensured 𝓛 step.ended (step.clauses 𝓛 mem run) (κ₀, tt) (sx, (c, tt)) tt g) (fact 𝓤 (g ≡ stepAt (inside sx.now c) c))
-  said-step c g = ex_e 𝓤 _ (λ ws. snd∗ 𝓤 (sem 𝓛 (lasts step.ended (κ₀, tt) (sx, (c, tt)) ws)) (fact 𝓤 (g ≡ stepAt (inside sx.now c) c)))
+  said-step : (c : BitCursor) (g : PayloadStep) → ent 𝓤 (ensured 𝓛 step.ended (step.clauses 𝓛 mem run) (κ₀, tt) (sx, (c, tt)) tt g) (fact 𝓤 (g ≡ step_at (inside sx.now c) c))
+  said-step c g = ex_e 𝓤 _ (λ ws. snd∗ 𝓤 (sem 𝓛 (lasts step.ended (κ₀, tt) (sx, (c, tt)) ws)) (fact 𝓤 (g ≡ step_at (inside sx.now c) c)))
 
   -- the call of put_row at the state st, on the table lent again for the lifetime ν under the name δ
   abbrev put-args : GName → St → PayloadRecord → MutBor (List PayloadRow) × (ℕ × (ℕ × (PayloadRecord × Unit {0})))
@@ -248,9 +248,9 @@ module _ {M : Type 1} {𝓤 : Ura M} (𝓛 : Logic 𝓤) (mem : Memory → SProp
   to_take b₄ ν δ st r = (((ν ∷ [], tt), (full_share, tt), tt, take-args b₄ δ st r, (slice_val (b₄, 0) 512 ∷ [], (vint w64 r.id ∷ [], (vint w64 st.k ∷ [], tt)))), tt)
 
   abbrev to-put : ℕ → GName → St → PayloadRecord → (PutRow 𝓛 mem run).Ghost
-  to-put ν δ st r = (((ν ∷ [], tt), (full_share, tt), tt, put-args δ st r, (tv ∷ [], (vint w64 st.k ∷ [], (vint w64 (searched st.slots r.id st.k) ∷ [], (recordVal r ∷ [], tt))))), tt)
+  to-put ν δ st r = (((ν ∷ [], tt), (full_share, tt), tt, put-args δ st r, (tv ∷ [], (vint w64 st.k ∷ [], (vint w64 (searched st.slots r.id st.k) ∷ [], (record_val r ∷ [], tt))))), tt)
 
-  module _ (st : St) {r : PayloadRecord} {c : BitCursor} (g : stepAt (inside sx.now st.at) st.at ≡ Payload r c) (less : st.k < planning.count) (r-is : Is Record r (recordVal r ∷ [])) where
+  module _ (st : St) {r : PayloadRecord} {c : BitCursor} (g : step_at (inside sx.now st.at) st.at ≡ Payload r c) (less : st.k < planning.count) (r-is : Is Record r (record_val r ∷ [])) where
     in-xs : st.k < length xs
     in-xs = lt_of_lt_of_le less (plan-room sx.now xs)
 
@@ -269,7 +269,7 @@ module _ {M : Type 1} {𝓤 : Ura M} (𝓛 : Logic 𝓤) (mem : Memory → SProp
     goes-take : (b₄ ν : ℕ) (δ : GName) → ent 𝓤 (⋆ 𝓛 ((‵ (flft (ν ∷ []) full_share) ⊛ ‵ (LentRow 𝓛 u64 (ν ∷ []) b₄ 0 (named 0) δ st.slots 512)) ∷ [])) ((TakeSlot 𝓛 mem run).pre (to_take b₄ ν δ st r))
     goes-take b₄ ν δ =
         qed 𝓛 ((‵ (flft (ν ∷ []) full_share) ⊛ ‵ (LentRow 𝓛 u64 (ν ∷ []) b₄ 0 (named 0) δ st.slots 512)) ∷ []) ∵ says ! k-fits $ split ! $ nothing ! $ move ! (1 ∷ 0 ∷ []) $ join ! $ frame ! $
-        nothing ! $ owned ! usize (Is usize) (uint_Makes 𝓛 w64) st.k _ k-is $ fjoin ! $ owned ! u64 (Is u64) (uint_Makes 𝓛 w64) r.id _ (refl, record-id r (recordVal r) r-is) $ fjoin ! $ move ! (1 ∷ 0 ∷ []) $ fjoin ! $ done !
+        nothing ! $ owned ! usize (Is usize) (uint_Makes 𝓛 w64) st.k _ k-is $ fjoin ! $ owned ! u64 (Is u64) (uint_Makes 𝓛 w64) r.id _ (refl, record-id r (record_val r) r-is) $ fjoin ! $ move ! (1 ∷ 0 ∷ []) $ fjoin ! $ done !
 
     goes-put : (ν : ℕ) (δ : GName) → ent 𝓤 (⋆ 𝓛 ((‵ (flft (ν ∷ []) full_share) ⊛ ‵ (owns-at (ν ∷ []) δ st.l (length xs))) ∷ [])) ((PutRow 𝓛 mem run).pre (to-put ν δ st r))
     goes-put ν δ =
@@ -291,43 +291,43 @@ module _ {M : Type 1} {𝓤 : Ura M} (𝓛 : Logic 𝓤) (mem : Memory → SProp
 
     module _ (l₀ l₁ l₂ l₃ l₄ l₅ l₆ l₇ l₈ l₉ l₁₀ l₁₁ l₁₂ l₁₃ l₁₄ l₁₅ l₁₆ l₁₇ : ℕ) where
       abbrev En : Env 𝓤 H
-      En = (answerTy, l₀) ∷ (bytes, l₁) ∷ (table, l₂) ∷ (planTy, l₃) ∷ (slotsTy, l₄) ∷ (word, l₅) ∷ (cursorTy, l₆) ∷ (stepTy, l₇) ∷ (recordTy, l₈) ∷ (cursorTy, l₉) ∷ (word, l₁₀) ∷ (word, l₁₁) ∷ (ty_bool, l₁₂) ∷ (slotsRefᵉ, l₁₃) ∷ (slotsᵉ, l₁₄) ∷ (ty_unit, l₁₅) ∷ (tableRefᵉ, l₁₆) ∷ (tableᵉ, l₁₇) ∷ []
+      En = (answer_ty, l₀) ∷ (bytes, l₁) ∷ (table, l₂) ∷ (plan_ty, l₃) ∷ (slots_ty, l₄) ∷ (word, l₅) ∷ (cursor_ty, l₆) ∷ (step_ty, l₇) ∷ (record_ty, l₈) ∷ (cursor_ty, l₉) ∷ (word, l₁₀) ∷ (word, l₁₁) ∷ (ty_bool, l₁₂) ∷ (slots_refᵉ, l₁₃) ∷ (slotsᵉ, l₁₄) ∷ (ty_unit, l₁₅) ∷ (table_refᵉ, l₁₆) ∷ (tableᵉ, l₁₇) ∷ []
 
       -- [what table owns; its token; bytes' token; what bytes owns; _17; …; _0; …]
       abbrev Base : St → Item 𝓤 → List (Item 𝓤)
       Base st i₇ = ‵ (Mown st.l) ∷ ‵ (flft κ₁ q₁) ∷ ‵ (flft κ₀ q₀) ∷ ‵ Own
-          ∷ ‵ (froom tableᵉ l₁₇ 0) ∷ ‵ (fdies tableᵉ l₁₇) ∷ ‵ (froom tableRefᵉ l₁₆ 0) ∷ ‵ (fdies tableRefᵉ l₁₆) ∷ ‵ (froom ty_unit l₁₅ 0) ∷ ‵ (fdies ty_unit l₁₅) ∷ ‵ (froom slotsᵉ l₁₄ 0) ∷ ‵ (fdies slotsᵉ l₁₄)
-          ∷ ‵ (froom slotsRefᵉ l₁₃ 0) ∷ ‵ (fdies slotsRefᵉ l₁₃) ∷ ‵ (froom ty_bool l₁₂ 0) ∷ ‵ (fdies ty_bool l₁₂) ∷ ‵ (froom word l₁₁ 0) ∷ ‵ (fdies word l₁₁) ∷ ‵ (froom word l₁₀ 0) ∷ ‵ (fdies word l₁₀)
-          ∷ ‵ (froom cursorTy l₉ 0) ∷ ‵ (fdies cursorTy l₉) ∷ ‵ (froom recordTy l₈ 0) ∷ ‵ (fdies recordTy l₈) ∷ i₇ ∷ ‵ (fdies stepTy l₇) ∷ ‵ (fat full_share cursorTy l₆ 0 (cursorVal st.at)) ∷ ‵ (fdies cursorTy l₆)
-          ∷ ‵ (fat full_share word l₅ 0 (vint w64 st.k)) ∷ ‵ (fdies word l₅) ∷ ‵ (row u64 full_share st.slots l₄ 0) ∷ ‵ (fdies slotsTy l₄) ∷ ‵ (fat full_share planTy l₃ 0 (planVal planning)) ∷ ‵ (fdies planTy l₃) ∷ ‵ (fat full_share table l₂ 0 tv) ∷ ‵ (fdies table l₂)
-          ∷ ‵ (fat full_share bytes l₁ 0 sv) ∷ ‵ (fdies bytes l₁) ∷ ‵ (froom answerTy l₀ 0) ∷ ‵ (fdies answerTy l₀) ∷ []
+          ∷ ‵ (froom tableᵉ l₁₇ 0) ∷ ‵ (fdies tableᵉ l₁₇) ∷ ‵ (froom table_refᵉ l₁₆ 0) ∷ ‵ (fdies table_refᵉ l₁₆) ∷ ‵ (froom ty_unit l₁₅ 0) ∷ ‵ (fdies ty_unit l₁₅) ∷ ‵ (froom slotsᵉ l₁₄ 0) ∷ ‵ (fdies slotsᵉ l₁₄)
+          ∷ ‵ (froom slots_refᵉ l₁₃ 0) ∷ ‵ (fdies slots_refᵉ l₁₃) ∷ ‵ (froom ty_bool l₁₂ 0) ∷ ‵ (fdies ty_bool l₁₂) ∷ ‵ (froom word l₁₁ 0) ∷ ‵ (fdies word l₁₁) ∷ ‵ (froom word l₁₀ 0) ∷ ‵ (fdies word l₁₀)
+          ∷ ‵ (froom cursor_ty l₉ 0) ∷ ‵ (fdies cursor_ty l₉) ∷ ‵ (froom record_ty l₈ 0) ∷ ‵ (fdies record_ty l₈) ∷ i₇ ∷ ‵ (fdies step_ty l₇) ∷ ‵ (fat full_share cursor_ty l₆ 0 (cursor_val st.at)) ∷ ‵ (fdies cursor_ty l₆)
+          ∷ ‵ (fat full_share word l₅ 0 (vint w64 st.k)) ∷ ‵ (fdies word l₅) ∷ ‵ (row u64 full_share st.slots l₄ 0) ∷ ‵ (fdies slots_ty l₄) ∷ ‵ (fat full_share plan_ty l₃ 0 (plan_val planning)) ∷ ‵ (fdies plan_ty l₃) ∷ ‵ (fat full_share table l₂ 0 tv) ∷ ‵ (fdies table l₂)
+          ∷ ‵ (fat full_share bytes l₁ 0 sv) ∷ ‵ (fdies bytes l₁) ∷ ‵ (froom answer_ty l₀ 0) ∷ ‵ (fdies answer_ty l₀) ∷ []
 
       -- the same before the first turn, with the table's length still in _11, and room for the slots
       abbrev Planned : List (Item 𝓤)
       Planned = ‵ (Mown xs) ∷ ‵ (flft κ₁ q₁) ∷ ‵ (flft κ₀ q₀) ∷ ‵ Own
-          ∷ ‵ (froom tableᵉ l₁₇ 0) ∷ ‵ (fdies tableᵉ l₁₇) ∷ ‵ (froom tableRefᵉ l₁₆ 0) ∷ ‵ (fdies tableRefᵉ l₁₆) ∷ ‵ (froom ty_unit l₁₅ 0) ∷ ‵ (fdies ty_unit l₁₅) ∷ ‵ (froom slotsᵉ l₁₄ 0) ∷ ‵ (fdies slotsᵉ l₁₄)
-          ∷ ‵ (froom slotsRefᵉ l₁₃ 0) ∷ ‵ (fdies slotsRefᵉ l₁₃) ∷ ‵ (froom ty_bool l₁₂ 0) ∷ ‵ (fdies ty_bool l₁₂) ∷ ‵ (fat full_share word l₁₁ 0 (vint w64 (length xs))) ∷ ‵ (fdies word l₁₁) ∷ ‵ (froom word l₁₀ 0) ∷ ‵ (fdies word l₁₀)
-          ∷ ‵ (froom cursorTy l₉ 0) ∷ ‵ (fdies cursorTy l₉) ∷ ‵ (froom recordTy l₈ 0) ∷ ‵ (fdies recordTy l₈) ∷ ‵ (froom stepTy l₇ 0) ∷ ‵ (fdies stepTy l₇) ∷ ‵ (froom cursorTy l₆ 0) ∷ ‵ (fdies cursorTy l₆)
-          ∷ ‵ (froom word l₅ 0) ∷ ‵ (fdies word l₅) ∷ ‵ (froom slotsTy l₄ 0) ∷ ‵ (fdies slotsTy l₄) ∷ ‵ (fat full_share planTy l₃ 0 (planVal planning)) ∷ ‵ (fdies planTy l₃) ∷ ‵ (fat full_share table l₂ 0 tv) ∷ ‵ (fdies table l₂)
-          ∷ ‵ (fat full_share bytes l₁ 0 sv) ∷ ‵ (fdies bytes l₁) ∷ ‵ (froom answerTy l₀ 0) ∷ ‵ (fdies answerTy l₀) ∷ []
+          ∷ ‵ (froom tableᵉ l₁₇ 0) ∷ ‵ (fdies tableᵉ l₁₇) ∷ ‵ (froom table_refᵉ l₁₆ 0) ∷ ‵ (fdies table_refᵉ l₁₆) ∷ ‵ (froom ty_unit l₁₅ 0) ∷ ‵ (fdies ty_unit l₁₅) ∷ ‵ (froom slotsᵉ l₁₄ 0) ∷ ‵ (fdies slotsᵉ l₁₄)
+          ∷ ‵ (froom slots_refᵉ l₁₃ 0) ∷ ‵ (fdies slots_refᵉ l₁₃) ∷ ‵ (froom ty_bool l₁₂ 0) ∷ ‵ (fdies ty_bool l₁₂) ∷ ‵ (fat full_share word l₁₁ 0 (vint w64 (length xs))) ∷ ‵ (fdies word l₁₁) ∷ ‵ (froom word l₁₀ 0) ∷ ‵ (fdies word l₁₀)
+          ∷ ‵ (froom cursor_ty l₉ 0) ∷ ‵ (fdies cursor_ty l₉) ∷ ‵ (froom record_ty l₈ 0) ∷ ‵ (fdies record_ty l₈) ∷ ‵ (froom step_ty l₇ 0) ∷ ‵ (fdies step_ty l₇) ∷ ‵ (froom cursor_ty l₆ 0) ∷ ‵ (fdies cursor_ty l₆)
+          ∷ ‵ (froom word l₅ 0) ∷ ‵ (fdies word l₅) ∷ ‵ (froom slots_ty l₄ 0) ∷ ‵ (fdies slots_ty l₄) ∷ ‵ (fat full_share plan_ty l₃ 0 (plan_val planning)) ∷ ‵ (fdies plan_ty l₃) ∷ ‵ (fat full_share table l₂ 0 tv) ∷ ‵ (fdies table l₂)
+          ∷ ‵ (fat full_share bytes l₁ 0 sv) ∷ ‵ (fdies bytes l₁) ∷ ‵ (froom answer_ty l₀ 0) ∷ ‵ (fdies answer_ty l₀) ∷ []
 
       -- and in a turn once the rows to search are known
       abbrev Searched : St → PayloadRecord → BitCursor → List (Item 𝓤)
       Searched st r c = ‵ (Mown st.l) ∷ ‵ (flft κ₁ q₁) ∷ ‵ (flft κ₀ q₀) ∷ ‵ Own
-          ∷ ‵ (froom tableᵉ l₁₇ 0) ∷ ‵ (fdies tableᵉ l₁₇) ∷ ‵ (froom tableRefᵉ l₁₆ 0) ∷ ‵ (fdies tableRefᵉ l₁₆) ∷ ‵ (froom ty_unit l₁₅ 0) ∷ ‵ (fdies ty_unit l₁₅) ∷ ‵ (froom slotsᵉ l₁₄ 0) ∷ ‵ (fdies slotsᵉ l₁₄)
-          ∷ ‵ (froom slotsRefᵉ l₁₃ 0) ∷ ‵ (fdies slotsRefᵉ l₁₃) ∷ ‵ (froom ty_bool l₁₂ 0) ∷ ‵ (fdies ty_bool l₁₂) ∷ ‵ (froom word l₁₁ 0) ∷ ‵ (fdies word l₁₁) ∷ ‵ (fat full_share word l₁₀ 0 (vint w64 (searched st.slots r.id st.k))) ∷ ‵ (fdies word l₁₀)
-          ∷ ‵ (fat full_share cursorTy l₉ 0 (cursorVal c)) ∷ ‵ (fdies cursorTy l₉) ∷ ‵ (fat full_share recordTy l₈ 0 (recordVal r)) ∷ ‵ (fdies recordTy l₈) ∷ ‵ (froom stepTy l₇ 0) ∷ ‵ (fdies stepTy l₇) ∷ ‵ (fat full_share cursorTy l₆ 0 (cursorVal st.at)) ∷ ‵ (fdies cursorTy l₆)
-          ∷ ‵ (fat full_share word l₅ 0 (vint w64 st.k)) ∷ ‵ (fdies word l₅) ∷ ‵ (row u64 full_share (slotsWith st.slots r.id st.k) l₄ 0) ∷ ‵ (fdies slotsTy l₄) ∷ ‵ (fat full_share planTy l₃ 0 (planVal planning)) ∷ ‵ (fdies planTy l₃) ∷ ‵ (fat full_share table l₂ 0 tv) ∷ ‵ (fdies table l₂)
-          ∷ ‵ (fat full_share bytes l₁ 0 sv) ∷ ‵ (fdies bytes l₁) ∷ ‵ (froom answerTy l₀ 0) ∷ ‵ (fdies answerTy l₀) ∷ []
+          ∷ ‵ (froom tableᵉ l₁₇ 0) ∷ ‵ (fdies tableᵉ l₁₇) ∷ ‵ (froom table_refᵉ l₁₆ 0) ∷ ‵ (fdies table_refᵉ l₁₆) ∷ ‵ (froom ty_unit l₁₅ 0) ∷ ‵ (fdies ty_unit l₁₅) ∷ ‵ (froom slotsᵉ l₁₄ 0) ∷ ‵ (fdies slotsᵉ l₁₄)
+          ∷ ‵ (froom slots_refᵉ l₁₃ 0) ∷ ‵ (fdies slots_refᵉ l₁₃) ∷ ‵ (froom ty_bool l₁₂ 0) ∷ ‵ (fdies ty_bool l₁₂) ∷ ‵ (froom word l₁₁ 0) ∷ ‵ (fdies word l₁₁) ∷ ‵ (fat full_share word l₁₀ 0 (vint w64 (searched st.slots r.id st.k))) ∷ ‵ (fdies word l₁₀)
+          ∷ ‵ (fat full_share cursor_ty l₉ 0 (cursor_val c)) ∷ ‵ (fdies cursor_ty l₉) ∷ ‵ (fat full_share record_ty l₈ 0 (record_val r)) ∷ ‵ (fdies record_ty l₈) ∷ ‵ (froom step_ty l₇ 0) ∷ ‵ (fdies step_ty l₇) ∷ ‵ (fat full_share cursor_ty l₆ 0 (cursor_val st.at)) ∷ ‵ (fdies cursor_ty l₆)
+          ∷ ‵ (fat full_share word l₅ 0 (vint w64 st.k)) ∷ ‵ (fdies word l₅) ∷ ‵ (row u64 full_share (slots_with st.slots r.id st.k) l₄ 0) ∷ ‵ (fdies slots_ty l₄) ∷ ‵ (fat full_share plan_ty l₃ 0 (plan_val planning)) ∷ ‵ (fdies plan_ty l₃) ∷ ‵ (fat full_share table l₂ 0 tv) ∷ ‵ (fdies table l₂)
+          ∷ ‵ (fat full_share bytes l₁ 0 sv) ∷ ‵ (fdies bytes l₁) ∷ ‵ (froom answer_ty l₀ 0) ∷ ‵ (fdies answer_ty l₀) ∷ []
 
       abbrev At : St → List (Item 𝓤)
-      At st = Base st (‵ (froom stepTy l₇ 0))
+      At st = Base st (‵ (froom step_ty l₇ 0))
 
       module _ (answer-is : Is Answer planning.answer (answer_val planning.answer ∷ [])) where
         -- after the loop the slots are whole again, and the locals are freed
-        after : (st : St) → st.l ≡ tableAfter (left_by sx.now xs) xs → Sq 𝓛 (At st) (runs C Λ En rest (at_ret En Post))
+        after : (st : St) → st.l ≡ table_after (left_by sx.now xs) xs → Sq 𝓛 (At st) (runs C Λ En rest (at_ret En Post))
         after st e =
-            move ! (30 ∷ []) $ use1 𝓛 (‵ (froom slotsTy l₄ 0)) (room_of_row 𝓛 u64 512 l₄ 0 st.slots st.slots_len) $ keep ! (1 ∷ 2 ∷ 3 ∷ 4 ∷ 5 ∷ 6 ∷ 7 ∷ 8 ∷ 9 ∷ 10 ∷ 11 ∷ 12 ∷ 13 ∷ 14 ∷ 15 ∷ 16 ∷ 17 ∷ 18 ∷ 19 ∷ 20 ∷ 21 ∷ 22 ∷ 23 ∷ 24 ∷ 25 ∷ 26 ∷ 27 ∷ 28 ∷ 29 ∷ 30 ∷ 0 ∷ 31 ∷ 32 ∷ 33 ∷ 34 ∷ 35 ∷ 36 ∷ 37 ∷ 38 ∷ 39 ∷ []) $
+            move ! (30 ∷ []) $ use1 𝓛 (‵ (froom slots_ty l₄ 0)) (room_of_row 𝓛 u64 512 l₄ 0 st.slots st.slots_len) $ keep ! (1 ∷ 2 ∷ 3 ∷ 4 ∷ 5 ∷ 6 ∷ 7 ∷ 8 ∷ 9 ∷ 10 ∷ 11 ∷ 12 ∷ 13 ∷ 14 ∷ 15 ∷ 16 ∷ 17 ∷ 18 ∷ 19 ∷ 20 ∷ 21 ∷ 22 ∷ 23 ∷ 24 ∷ 25 ∷ 26 ∷ 27 ∷ 28 ∷ 29 ∷ 30 ∷ 0 ∷ 31 ∷ 32 ∷ 33 ∷ 34 ∷ 35 ∷ 36 ∷ 37 ∷ 38 ∷ 39 ∷ []) $
             assigns ! (of_opd ! (load ! (from ! (fld ! plan-answer-at (stop !))) (look_in ! 32 (sub ! 2 plan-answer-at (whole !))))) (from ! (stop !)) (init ! 38 refl (answer_typed 𝓛 planning.answer (answer_val planning.answer) answer-is)) $
             returns ! (look ! 38 refl) $ forget ! 26 refl $ forget ! 28 refl $ forget ! 32 refl $ forget ! 34 refl $ forget ! 36 refl $ forget ! 38 refl $
             move ! (38 ∷ 39 ∷ []) $ free1 ! $ move ! (36 ∷ 37 ∷ []) $ free1 ! $ move ! (34 ∷ 35 ∷ []) $ free1 ! $ move ! (32 ∷ 33 ∷ []) $ free1 ! $ move ! (30 ∷ 31 ∷ []) $ free1 ! $ move ! (28 ∷ 29 ∷ []) $ free1 ! $ move ! (26 ∷ 27 ∷ []) $ free1 ! $ move ! (24 ∷ 25 ∷ []) $ free1 ! $ move ! (22 ∷ 23 ∷ []) $ free1 ! $ move ! (20 ∷ 21 ∷ []) $ free1 ! $ move ! (18 ∷ 19 ∷ []) $ free1 ! $ move ! (16 ∷ 17 ∷ []) $ free1 ! $ move ! (14 ∷ 15 ∷ []) $ free1 ! $ move ! (12 ∷ 13 ∷ []) $ free1 ! $ move ! (10 ∷ 11 ∷ []) $ free1 ! $ move ! (8 ∷ 9 ∷ []) $ free1 ! $ move ! (6 ∷ 7 ∷ []) $ free1 ! $ move ! (4 ∷ 5 ∷ []) $ free1 ! $ free0 ! $
@@ -337,7 +337,7 @@ module _ {M : Type 1} {𝓤 : Ura M} (𝓛 : Logic 𝓤) (mem : Memory → SProp
         Turned st = after_turn 𝓤 H (Below 𝓛 Nearer At st) (after_block 𝓤 H (after_seq 𝓤 H (Wp 𝓤 H C Λ En rest (at_return 𝓤 H En Post)) (at_return 𝓤 H En Post)))
 
         -- its row is put in
-        on_row : (st : St) → st.k < planning.count → (r : PayloadRecord) (c : BitCursor) → stepAt (inside sx.now st.at) st.at ≡ Payload r c → Is Record r (recordVal r ∷ []) → Is Cursor c (cursorVal c ∷ [])
+        on_row : (st : St) → st.k < planning.count → (r : PayloadRecord) (c : BitCursor) → step_at (inside sx.now st.at) st.at ≡ Payload r c → Is Record r (record_val r ∷ []) → Is Cursor c (cursor_val c ∷ [])
             → Sq 𝓛 (Searched st r c) (runs C Λ En puts (any_q (Turned st)))
         unfolding after_turn
         on_row st less r c e r-is c-is =
@@ -351,8 +351,8 @@ module _ {M : Type 1} {𝓤 : Ura M} (𝓛 : Logic 𝓤) (mem : Memory → SProp
             move ! (2 ∷ 0 ∷ []) $ group ! 2 $ use1 𝓛 (raw ((PutRow 𝓛 mem run).pre (to-put ν δ st r))) (goes-put st e less r-is ν δ) $
             calls_at ! (fm_of 𝓤 H 𝓛.laws 𝓣) (PutRow 𝓛 mem run) known-put (to-put ν δ st r) (and_then ! (load ! (from ! (stop !)) (look ! 4 refl)) (and_then ! (load ! (from ! (stop !)) (look ! 28 refl)) (and_then ! (load ! (from ! (stop !)) (look ! 18 refl)) (and_then ! (load ! (from ! (stop !)) (look ! 22 refl)) (no_more !))))) (λ w.
             use1 𝓛 (later (some (λ (t : Unit {0}). ((‵ (flft (ν ∷ []) full_share) ⊛ ‵ ftrue) ⊛ ‵ (unit.own_val t (w ∷ []))) ⊛ raw (ensured 𝓛 putter.ended (putter.clauses 𝓛 mem run) (ν ∷ [], tt) (put-args δ st r) tt t)))) (id⊢ 𝓤 _) $ await ! tt $ pick ! (λ t.
-            split ! $ move ! (1 ∷ []) $ use1 𝓛 (some (λ (ws : Lasts putter.ended (ν ∷ [], tt) (put-args δ st r)). ‵ (lasts putter.ended (ν ∷ [], tt) (put-args δ st r) ws) ⊛ raw (fact 𝓤 (ws.0 ≡ set st.l st.k (rowAfter st.l (searched st.slots r.id st.k) r))))) (id⊢ 𝓤 _) $ pick ! (λ ws.
-            split ! $ move ! (1 ∷ []) $ heard ! (ws.0 ≡ set st.l st.k (rowAfter st.l (searched st.slots r.id st.k) r)) (λ last. fsplit ! $ fsplit ! $ move ! (1 ∷ []) $ feq_l ! (λ long.
+            split ! $ move ! (1 ∷ []) $ use1 𝓛 (some (λ (ws : Lasts putter.ended (ν ∷ [], tt) (put-args δ st r)). ‵ (lasts putter.ended (ν ∷ [], tt) (put-args δ st r) ws) ⊛ raw (fact 𝓤 (ws.0 ≡ set st.l st.k (row_after st.l (searched st.slots r.id st.k) r))))) (id⊢ 𝓤 _) $ pick ! (λ ws.
+            split ! $ move ! (1 ∷ []) $ heard ! (ws.0 ≡ set st.l st.k (row_after st.l (searched st.slots r.id st.k) r)) (λ last. fsplit ! $ fsplit ! $ move ! (1 ∷ []) $ feq_l ! (λ long.
             -- [the last rows; the others'; the token and the result; what is kept; bytes' token; what bytes owns; _17; …]
             move ! (2 ∷ []) $ split ! $ move ! (1 ∷ []) $ feq_l ! (λ done-is. land ! (from ! (stop !)) (init ! 10 refl (subst (λ (v : Val). Holds (has_ty ty_unit v) × WT v) (sym (ap only done-is)) (tt, tt))) $
             -- the lifetime is ended, and the table comes back
@@ -360,20 +360,20 @@ module _ {M : Type 1} {𝓤 : Ura M} (𝓛 : Logic 𝓤) (mem : Memory → SProp
             use3 𝓛 (later (‵ (owns-at κ₁ γ ws.0 (length st.l)) ⊛ ‵ (flft κ₁ q₁))) (comes_back Row κ₁ (ν ∷ []) q₁ γ b o 𝓛 (named 1) (named 1) st.l δ ws.0 (subst (Room Row) (sym st.len) room) long) $ await ! tt $ split ! $
             rewrite ! 0 (λ (m : ℕ). ‵ (owns-at κ₁ γ ws.0 m)) st.len refl $ rewrite ! 0 (λ (l : List PayloadRow). ‵ (Mown l)) (last ∙ ap (set st.l st.k) (new_is sx.now xs st e less)) refl $
             -- [what table owns; its token; true; the others'; bytes' token; what bytes owns; _17; …]
-            assigns ! (of_opd ! (load ! (from ! (stop !)) (look ! 22 refl))) (from ! (stop !)) (store ! 28 refl (cursor-typed 𝓛 c (cursorVal c) c-is)) $
+            assigns ! (of_opd ! (load ! (from ! (stop !)) (look ! 22 refl))) (from ! (stop !)) (store ! 28 refl (cursor-typed 𝓛 c (cursor_val c) c-is)) $
             assigns_last ! (bin ! (load ! (from ! (stop !)) (look ! 30 refl)) (lit ! tt) (record { fits = k-fits st e less r-is })) (from ! (stop !)) (store ! 30 refl (tt, record { fits = k-fits st e less r-is })) $
             forget ! 6 refl $ forget ! 8 refl $ forget ! 10 refl $ forget ! 20 refl $ forget ! 22 refl $ forget ! 24 refl $
             keep ! (0 ∷ 1 ∷ 4 ∷ 5 ∷ 6 ∷ 7 ∷ 8 ∷ 9 ∷ 10 ∷ 11 ∷ 12 ∷ 13 ∷ 14 ∷ 15 ∷ 16 ∷ 17 ∷ 18 ∷ 19 ∷ 20 ∷ 21 ∷ 22 ∷ 23 ∷ 24 ∷ 25 ∷ 26 ∷ 27 ∷ 28 ∷ 29 ∷ 30 ∷ 31 ∷ 32 ∷ 33 ∷ 34 ∷ 35 ∷ 36 ∷ 37 ∷ 38 ∷ 39 ∷ 40 ∷ 41 ∷ []) $
             again ! Nearer At st (next sx.now xs st e less c-is) (nearer sx.now xs st less)))))))))
 
         -- a payload was found: its id's slot says how many rows to search
-        on-payload : (st : St) → st.k < planning.count → (r : PayloadRecord) (c : BitCursor) → stepAt (inside sx.now st.at) st.at ≡ Payload r c → Is Record r (recordVal r ∷ []) → Is Cursor c (cursorVal c ∷ [])
-            → Sq 𝓛 (Base st (‵ (fat full_share stepTy l₇ 0 (stepVal (Payload r c))))) (runs C Λ En found (any_q (Turned st)))
+        on-payload : (st : St) → st.k < planning.count → (r : PayloadRecord) (c : BitCursor) → step_at (inside sx.now st.at) st.at ≡ Payload r c → Is Record r (record_val r ∷ []) → Is Cursor c (cursor_val c ∷ [])
+            → Sq 𝓛 (Base st (‵ (fat full_share step_ty l₇ 0 (step_val (Payload r c))))) (runs C Λ En found (any_q (Turned st)))
         on-payload st less r c e r-is c-is =
-            rewrite ! 24 (λ (v : Val). ‵ (fat full_share stepTy l₇ 0 v)) (step-payload r c) refl $
+            rewrite ! 24 (λ (v : Val). ‵ (fat full_share step_ty l₇ 0 v)) (step-payload r c) refl $
             first ! $ switches_on ! (load ! (from ! (vrt ! refl (fld ! refl (stop !)))) (look_tag ! 24 (whole !))) $ exec ! C Λ En takes (any_q (after_seq 𝓤 H (Wp 𝓤 H C Λ En searches (Turned st)) (Turned st))) $
-            assigns ! (of_opd ! (load ! (from ! (vrt ! refl (fld ! step-record-at (stop !)))) (look_in ! 24 (in_variant ! 0 0 refl step-record-at (whole !))))) (from ! (stop !)) (init ! 22 refl (record-typed 𝓛 r (recordVal r) r-is)) $
-            assigns_last ! (of_opd ! (load ! (from ! (vrt ! refl (fld ! step-cursor-at (stop !)))) (look_in ! 24 (in_variant ! 0 1 refl step-cursor-at (whole !))))) (from ! (stop !)) (init ! 20 refl (cursor-typed 𝓛 c (cursorVal c) c-is)) $
+            assigns ! (of_opd ! (load ! (from ! (vrt ! refl (fld ! step-record-at (stop !)))) (look_in ! 24 (in_variant ! 0 0 refl step-record-at (whole !))))) (from ! (stop !)) (init ! 22 refl (record-typed 𝓛 r (record_val r) r-is)) $
+            assigns_last ! (of_opd ! (load ! (from ! (vrt ! refl (fld ! step-cursor-at (stop !)))) (look_in ! 24 (in_variant ! 0 1 refl step-cursor-at (whole !))))) (from ! (stop !)) (init ! 20 refl (cursor-typed 𝓛 c (cursor_val c) c-is)) $
             exec ! C Λ En searches (any_q (Turned st)) $ forget ! 24 refl $
             assigns ! (addr ! (from ! (stop !))) (from ! (stop !)) (init ! 12 refl (tt, tt)) $
             assigns ! (agg ! (and_then ! (load ! (from ! (stop !)) (look ! 12 refl)) (and_then ! (lit ! tt) (no_more !)))) (from ! (stop !)) (init ! 10 refl (tt, (tt, (record { fits = lit< tt }, tt)))) $
@@ -385,21 +385,21 @@ module _ {M : Type 1} {𝓤 : Ura M} (𝓛 : Logic 𝓤) (mem : Memory → SProp
             move ! (2 ∷ 0 ∷ []) $ group ! 2 $ use1 𝓛 (raw ((TakeSlot 𝓛 mem run).pre (to_take l₄ ν δ st r))) (goes-take st e less r-is l₄ ν δ) $
             calls_at ! (fm_of 𝓤 H 𝓛.laws 𝓣) (TakeSlot 𝓛 mem run) known-take (to_take l₄ ν δ st r) (and_then ! (load ! (from ! (stop !)) (look ! 12 refl)) (and_then ! (load ! (from ! (fld ! refl (stop !))) (look_in ! 24 (sub ! 0 refl (whole !)))) (and_then ! (load ! (from ! (stop !)) (look ! 30 refl)) (no_more !)))) (λ w.
             use1 𝓛 (later (some (λ (n : ℕ). ((‵ (flft (ν ∷ []) full_share) ⊛ ‵ ftrue) ⊛ ‵ (usize.own_val n (w ∷ []))) ⊛ raw (ensured 𝓛 taker.ended (taker.clauses 𝓛 mem run) (ν ∷ [], tt) (take-args l₄ δ st r) tt n)))) (id⊢ 𝓤 _) $ await ! tt $ pick ! (λ n.
-            split ! $ move ! (1 ∷ []) $ use1 𝓛 (some (λ (ws : Lasts taker.ended (ν ∷ [], tt) (take-args l₄ δ st r)). ‵ (lasts taker.ended (ν ∷ [], tt) (take-args l₄ δ st r) ws) ⊛ raw (fact 𝓤 ((n ≡ searched st.slots r.id st.k) × (ws.0 ≡ slotsWith st.slots r.id st.k))))) (id⊢ 𝓤 _) $ pick ! (λ ws.
-            split ! $ move ! (1 ∷ []) $ heard ! ((n ≡ searched st.slots r.id st.k) × (ws.0 ≡ slotsWith st.slots r.id st.k)) (λ told. fsplit ! $ fsplit ! $ rewrite ! 0 (λ (l : List ℕ). ‵ (finally u64 δ l)) told.1 refl $
+            split ! $ move ! (1 ∷ []) $ use1 𝓛 (some (λ (ws : Lasts taker.ended (ν ∷ [], tt) (take-args l₄ δ st r)). ‵ (lasts taker.ended (ν ∷ [], tt) (take-args l₄ δ st r) ws) ⊛ raw (fact 𝓤 ((n ≡ searched st.slots r.id st.k) × (ws.0 ≡ slots_with st.slots r.id st.k))))) (id⊢ 𝓤 _) $ pick ! (λ ws.
+            split ! $ move ! (1 ∷ []) $ heard ! ((n ≡ searched st.slots r.id st.k) × (ws.0 ≡ slots_with st.slots r.id st.k)) (λ told. fsplit ! $ fsplit ! $ rewrite ! 0 (λ (l : List ℕ). ‵ (finally u64 δ l)) told.1 refl $
             -- [the last slots; their number; the others'; the token and the result; the lender's part; what table owns; …]
             move ! (3 ∷ []) $ split ! $ move ! (1 ∷ []) $ peeks ! usize (Is usize) (shows 𝓛 usize) n (w ∷ []) (λ n-is. land ! (from ! (stop !)) (init ! 24 refl ((uint_Lawful 𝓛 w64).typed n (w ∷ []) n-is).0) $
             rewrite ! 24 (λ (v : Val). ‵ (fat full_share word l₁₀ 0 v)) (ap only n-is.0 ∙ ap (vint w64) told.0) refl $
             -- the lifetime is ended, and the slots come back
             move ! (1 ∷ []) $ split ! $ lft_end ! tt $ move ! (0 ∷ 6 ∷ 3 ∷ []) $
-            use3 𝓛 (later (‵ (row u64 full_share (slotsWith st.slots r.id st.k) l₄ 0))) (row_back 𝓛 u64 (ν ∷ []) l₄ 0 δ (slotsWith st.slots r.id st.k) (length st.slots)) $ await ! tt $
+            use3 𝓛 (later (‵ (row u64 full_share (slots_with st.slots r.id st.k) l₄ 0))) (row_back 𝓛 u64 (ν ∷ []) l₄ 0 δ (slots_with st.slots r.id st.k) (length st.slots)) $ await ! tt $
             -- [the slots; true; what the result owns; their number; the others'; what table owns; its token; bytes' token; what bytes owns; _17; …]
             forget ! 15 refl $ forget ! 17 refl $ keep ! (5 ∷ 6 ∷ 7 ∷ 8 ∷ 9 ∷ 10 ∷ 11 ∷ 12 ∷ 13 ∷ 14 ∷ 15 ∷ 16 ∷ 17 ∷ 18 ∷ 19 ∷ 20 ∷ 21 ∷ 22 ∷ 23 ∷ 24 ∷ 25 ∷ 26 ∷ 27 ∷ 28 ∷ 29 ∷ 30 ∷ 31 ∷ 32 ∷ 33 ∷ 34 ∷ 0 ∷ 35 ∷ 36 ∷ 37 ∷ 38 ∷ 39 ∷ 40 ∷ 41 ∷ 42 ∷ 43 ∷ []) $
             on_row st less r c e r-is c-is)))))))
 
         -- nothing else is found, since one is left
-        on_step : (st : St) → st.k < planning.count → (g : PayloadStep) → stepAt (inside sx.now st.at) st.at ≡ g → Is Step g (stepVal g ∷ [])
-            → Sq 𝓛 (Base st (‵ (fat full_share stepTy l₇ 0 (stepVal g)))) (runs C Λ En found (any_q (Turned st)))
+        on_step : (st : St) → st.k < planning.count → (g : PayloadStep) → step_at (inside sx.now st.at) st.at ≡ g → Is Step g (step_val g ∷ [])
+            → Sq 𝓛 (Base st (‵ (fat full_share step_ty l₇ 0 (step_val g)))) (runs C Λ En found (any_q (Turned st)))
         on_step st less (Payload r c) e is = on-payload st less r c e (step-record r c is) (step-cursor r c is)
         on_step st less (End c) e is = absurd (never-ended sx.now st.at st.left st.ahead (some_left sx.now xs st less) e)
         on_step st less (Refused why) e is = absurd (never-refused sx.now st.at st.left st.ahead (some_left sx.now xs st less) e)
@@ -413,29 +413,29 @@ module _ {M : Type 1} {𝓤 : Ura M} (𝓛 : Logic 𝓤) (mem : Memory → SProp
             move ! (3 ∷ []) $ use1 𝓛 (‵ Own ⊛ ‵ Own) ((shr_slice_copy 𝓛 (named 0) κ₀ u8).twice sx (sv ∷ [])) $ split ! $ move ! (4 ∷ 0 ∷ []) $ use2 𝓛 (raw ((StepAt 𝓛 mem run).pre (to_step st.at))) (goes_step st.at st.at-is) $
             calls_at ! (fm_of 𝓤 H 𝓛.laws 𝓣) (StepAt 𝓛 mem run) Known-step (to_step st.at) (and_then ! (load ! (from ! (stop !)) (look ! 36 refl)) (and_then ! (load ! (from ! (stop !)) (look ! 26 refl)) (no_more !))) (λ u.
             use1 𝓛 (later (some (λ (g : PayloadStep). ((‵ (flft κ₀ q₀) ⊛ ‵ ftrue) ⊛ ‵ (Step.own_val g (u ∷ []))) ⊛ raw (ensured 𝓛 step.ended (step.clauses 𝓛 mem run) (κ₀, tt) (sx, (st.at, tt)) tt g)))) (id⊢ 𝓤 _) $ await ! tt $ pick ! (λ g.
-            split ! $ move ! (1 ∷ []) $ use1 𝓛 (raw (fact 𝓤 (g ≡ stepAt (inside sx.now st.at) st.at))) (said-step st.at g) $ heard ! (g ≡ stepAt (inside sx.now st.at) st.at) (λ e. split ! $ move ! (1 ∷ []) $
+            split ! $ move ! (1 ∷ []) $ use1 𝓛 (raw (fact 𝓤 (g ≡ step_at (inside sx.now st.at) st.at))) (said-step st.at g) $ heard ! (g ≡ step_at (inside sx.now st.at) st.at) (λ e. split ! $ move ! (1 ∷ []) $
             peeks ! Step (Is Step) (shows 𝓛 Step) g (u ∷ []) (λ is. land ! (from ! (stop !)) (init ! 25 refl (step_typed 𝓛 g u is)) $
-            rewrite ! 25 (λ (v : Val). ‵ (fat full_share stepTy l₇ 0 v)) (ap only (step-tells g (u ∷ []) is)) refl $ move ! (1 ∷ []) $ split ! $
+            rewrite ! 25 (λ (v : Val). ‵ (fat full_share step_ty l₇ 0 v)) (ap only (step-tells g (u ∷ []) is)) refl $ move ! (1 ∷ []) $ split ! $
             -- [bytes' token; true; what the result owns; what bytes owns; what table owns; its token; _17; …]
             keep ! (4 ∷ 5 ∷ 0 ∷ 3 ∷ 6 ∷ 7 ∷ 8 ∷ 9 ∷ 10 ∷ 11 ∷ 12 ∷ 13 ∷ 14 ∷ 15 ∷ 16 ∷ 17 ∷ 18 ∷ 19 ∷ 20 ∷ 21 ∷ 22 ∷ 23 ∷ 24 ∷ 25 ∷ 26 ∷ 27 ∷ 28 ∷ 29 ∷ 30 ∷ 31 ∷ 32 ∷ 33 ∷ 34 ∷ 35 ∷ 36 ∷ 37 ∷ 38 ∷ 39 ∷ 40 ∷ 41 ∷ []) $
             on_step st (ltb→lt st.k planning.count less) g (sym e) (subst (Is Step g) (step-tells g (u ∷ []) is) is))))))
             (λ ended. jumps ! $ exec ! C Λ En rest (at_ret En Post) $ forget ! 14 refl $ after st (over sx.now xs st (nltb→le st.k planning.count ended)))
 
-        filling : Is Cursor planning.first (cursorVal planning.first ∷ []) → Sq 𝓛 Planned (runs C Λ En fills (at_ret En Post))
+        filling : Is Cursor planning.first (cursor_val planning.first ∷ []) → Sq 𝓛 Planned (runs C Λ En fills (at_ret En Post))
         filling first-is =
-            assigns ! (rep ! 512 (lit ! tt)) (from ! (stop !)) (init ! 30 refl ((Array-Lawful 𝓛 u64 (uint_Lawful 𝓛 w64) 512).typed noSlots _ free).0) $
+            assigns ! (rep ! 512 (lit ! tt)) (from ! (stop !)) (init ! 30 refl ((Array-Lawful 𝓛 u64 (uint_Lawful 𝓛 w64) 512).typed no_slots _ free).0) $
             assigns ! (of_opd ! (lit ! tt)) (from ! (stop !)) (init ! 28 refl (tt, record { fits = lit< tt })) $
-            assigns ! (of_opd ! (load ! (from ! (fld ! plan-first-at (stop !))) (look_in ! 32 (sub ! 1 plan-first-at (whole !))))) (from ! (stop !)) (init ! 26 refl (cursor-typed 𝓛 planning.first (cursorVal planning.first) first-is)) $
+            assigns ! (of_opd ! (load ! (from ! (fld ! plan-first-at (stop !))) (look_in ! 32 (sub ! 1 plan-first-at (whole !))))) (from ! (stop !)) (init ! 26 refl (cursor-typed 𝓛 planning.first (cursor_val planning.first) first-is)) $
             forget ! 16 refl $
-            move ! (30 ∷ []) $ owned ! (Array u64 512) (Is (Array u64 512)) (Array-Makes 𝓛 u64 (uint_Makes 𝓛 w64) 512) noSlots _ free $ move ! (1 ∷ 0 ∷ []) $
-            use2 𝓛 (‵ (row u64 full_share noSlots l₄ 0)) (row-of-array 𝓛 u64 512 l₄ 0 tt noSlots (replicate 512 (vint w64 0))) $ keep ! (1 ∷ 2 ∷ 3 ∷ 4 ∷ 5 ∷ 6 ∷ 7 ∷ 8 ∷ 9 ∷ 10 ∷ 11 ∷ 12 ∷ 13 ∷ 14 ∷ 15 ∷ 16 ∷ 17 ∷ 18 ∷ 19 ∷ 20 ∷ 21 ∷ 22 ∷ 23 ∷ 24 ∷ 25 ∷ 26 ∷ 27 ∷ 28 ∷ 29 ∷ 30 ∷ 0 ∷ 31 ∷ 32 ∷ 33 ∷ 34 ∷ 35 ∷ 36 ∷ 37 ∷ 38 ∷ 39 ∷ []) $
+            move ! (30 ∷ []) $ owned ! (Array u64 512) (Is (Array u64 512)) (Array-Makes 𝓛 u64 (uint_Makes 𝓛 w64) 512) no_slots _ free $ move ! (1 ∷ 0 ∷ []) $
+            use2 𝓛 (‵ (row u64 full_share no_slots l₄ 0)) (row-of-array 𝓛 u64 512 l₄ 0 tt no_slots (replicate 512 (vint w64 0))) $ keep ! (1 ∷ 2 ∷ 3 ∷ 4 ∷ 5 ∷ 6 ∷ 7 ∷ 8 ∷ 9 ∷ 10 ∷ 11 ∷ 12 ∷ 13 ∷ 14 ∷ 15 ∷ 16 ∷ 17 ∷ 18 ∷ 19 ∷ 20 ∷ 21 ∷ 22 ∷ 23 ∷ 24 ∷ 25 ∷ 26 ∷ 27 ∷ 28 ∷ 29 ∷ 30 ∷ 0 ∷ 31 ∷ 32 ∷ 33 ∷ 34 ∷ 35 ∷ 36 ∷ 37 ∷ 38 ∷ 39 ∷ []) $
             first ! $ blocks ! $ loops ! 𝓣 Nearer Nearer-wf At turns (start sx.now xs first-is)
           where
-            free : Is (Array u64 512) noSlots (array_val (replicate 512 (vint w64 0)) ∷ [])
+            free : Is (Array u64 512) no_slots (array_val (replicate 512 (vint w64 0)) ∷ [])
             free = repeat-is u64 512 0 (vint w64 0) (refl, lit< tt)
 
     walk : ent 𝓤 (on_entry 𝓛 parse.signature (κ₀, (κ₁, tt)) (q₀, (q₁, tt)) a at) (WpFn 𝓤 H C Λ code.function (sv ∷ tv ∷ []) Post)
-    unfolding recordName behindIdTys rowTy cursorTy stepName otherSteps answerTy planName
+    unfolding record_name behind_id_tys row_ty cursor_ty step_name other_steps answer_ty plan_name
     walk =
         qed 𝓛 ((‵ (flft κ₀ q₀) ⊛ ‵ (flft κ₁ q₁) ⊛ ‵ ftrue) ∷ ‵ (owns (ShrSlice (named 0) κ₀ u8 ∷ MutSlice (named 1) κ₁ Row ∷ []) a at) ∷ []) ∵ enter ! C Λ code.function (sv ∷ tv ∷ []) _ $
         alloc1 ! (λ l₀. alloc1 ! (λ l₁. alloc1 ! (λ l₂. alloc1 ! (λ l₃. alloc1 ! (λ l₄. alloc1 ! (λ l₅. alloc1 ! (λ l₆. alloc1 ! (λ l₇. alloc1 ! (λ l₈. alloc1 ! (λ l₉. alloc1 ! (λ l₁₀. alloc1 ! (λ l₁₁. alloc1 ! (λ l₁₂. alloc1 ! (λ l₁₃. alloc1 ! (λ l₁₄. alloc1 ! (λ l₁₅. alloc1 ! (λ l₁₆. alloc1 ! (λ l₁₇. alloc0 ! $ params1 ! $
@@ -450,7 +450,7 @@ module _ {M : Type 1} {𝓤 : Ura M} (𝓛 : Logic 𝓤) (mem : Memory → SProp
         split ! $ move ! (1 ∷ []) $ use1 𝓛 (raw (fact 𝓤 (g ≡ planning))) (said-plan g) $ heard ! (g ≡ planning) (λ e. split ! $
         rewrite ! 1 (λ (y : RecordsPlan). ‵ (Plan.own_val y (u ∷ []))) e refl $ move ! (1 ∷ []) $
         peeks ! Plan (Is Plan) (shows 𝓛 Plan) planning (u ∷ []) (λ is. land ! (from ! (stop !)) (init ! 33 refl (plan-typed 𝓛 planning u is)) $
-        rewrite ! 33 (λ (v : Val). ‵ (fat full_share planTy l₃ 0 v)) (ap only (plan-tells planning (u ∷ []) is)) refl $ move ! (1 ∷ []) $ split ! $
+        rewrite ! 33 (λ (v : Val). ‵ (fat full_share plan_ty l₃ 0 v)) (ap only (plan-tells planning (u ∷ []) is)) refl $ move ! (1 ∷ []) $ split ! $
         keep ! (4 ∷ 5 ∷ 0 ∷ 3 ∷ 6 ∷ 7 ∷ 8 ∷ 9 ∷ 10 ∷ 11 ∷ 12 ∷ 13 ∷ 14 ∷ 15 ∷ 16 ∷ 17 ∷ 18 ∷ 19 ∷ 20 ∷ 21 ∷ 22 ∷ 23 ∷ 24 ∷ 25 ∷ 26 ∷ 27 ∷ 28 ∷ 29 ∷ 30 ∷ 31 ∷ 32 ∷ 33 ∷ 34 ∷ 35 ∷ 36 ∷ 37 ∷ 38 ∷ 39 ∷ 40 ∷ 41 ∷ []) $
         filling l₀ l₁ l₂ l₃ l₄ l₅ l₆ l₇ l₈ l₉ l₁₀ l₁₁ l₁₂ l₁₃ l₁₄ l₁₅ l₁₆ l₁₇ (plan-answer planning u is) (plan-first planning u is)))))))))))))))))))))))
 

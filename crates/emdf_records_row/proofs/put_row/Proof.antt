@@ -46,8 +46,8 @@ use denote.Exit.{yes}
 use denote.Signature.{plain}
 use Rattle.emdf_format.specs.declared.PayloadRecord.{PayloadRecord}
 use Rattle.emdf_format.specs.declared.PayloadRow.{PayloadRow}
-use Rattle.emdf_records_row.specs.Row.{last_of, rowAfter}
-use Rattle.emdf_records_row.proofs.Row.{Record, recordTy, recordVal, record-tells, record-made, record-typed, Row, rowTy, row_val, row-tells, row_made, row_typed, row_is, row-id, row-ordinal, row_fits, row-place}
+use Rattle.emdf_records_row.specs.Row.{last_of, row_after}
+use Rattle.emdf_records_row.proofs.Row.{Record, record_ty, record_val, record-tells, record-made, record-typed, Row, row_ty, row_val, row-tells, row_made, row_typed, row_is, row-id, row-ordinal, row_fits, row-place}
 use Rattle.emdf_records_row.proofs.Search.{Left, all_left, ended, one_left, in_rows, found, fewer, nearer}
 use Rattle.emdf_records_row.specs.contracts.put_row.Key.{name as #emdf-records-row·put-row}
 use Rattle.emdf_records_row.specs.contracts.put_row as put-row
@@ -67,13 +67,13 @@ table = slice_ty (ty_ref (named 0) mut (pointee Row.written))
 abbrev takes : Body
 takes = seq (assign (place 11 []) (op2 (mul unsigned) (copy (place 5 [])) (int w64 224)))
     (seq (assign (place 12 []) (op2 offset (copy (place 1 (field 0 ∷ []))) (copy (place 11 []))))
-    (seq (assign (place 6 []) (rv_opd (copy (place 12 (deref rowTy ∷ field 1 ∷ []))))) (exit 1)))
+    (seq (assign (place 6 []) (rv_opd (copy (place 12 (deref row_ty ∷ field 1 ∷ []))))) (exit 1)))
 
 abbrev looks : Body
 looks = seq (assign (place 5 []) (op2 (minus unsigned) (copy (place 5 [])) (int w64 1)))
     (seq (assign (place 8 []) (op2 (mul unsigned) (copy (place 5 [])) (int w64 224)))
     (seq (assign (place 9 []) (op2 offset (copy (place 1 (field 0 ∷ []))) (copy (place 8 []))))
-    (seq (assign (place 10 []) (rv_opd (copy (place 9 (deref rowTy ∷ field 0 ∷ field 0 ∷ [])))))
+    (seq (assign (place 10 []) (rv_opd (copy (place 9 (deref row_ty ∷ field 0 ∷ field 0 ∷ [])))))
     (seq (assign (place 7 []) (op2 eq (copy (place 10 [])) (copy (place 4 (field 0 ∷ [])))))
     (cond (copy (place 7 [])) takes skip)))))
 
@@ -86,14 +86,14 @@ puts = seq (assign (place 13 []) (op2 (add unsigned) (copy (place 6 [])) (int w6
     (seq (assign (place 14 []) (aggregate (copy (place 4 []) ∷ copy (place 13 []) ∷ [])))
     (seq (assign (place 15 []) (op2 (mul unsigned) (copy (place 2 [])) (int w64 224)))
     (seq (assign (place 16 []) (op2 offset (copy (place 1 (field 0 ∷ []))) (copy (place 15 []))))
-    (seq (assign (place 16 (deref rowTy ∷ [])) (rv_opd (copy (place 14 []))))
+    (seq (assign (place 16 (deref row_ty ∷ [])) (rv_opd (copy (place 14 []))))
     (seq (assign (place 0 []) (rv_opd opd_unit)) return)))))
 
 abbrev searches : Body
 searches = seq (block (loop turn)) puts
 
 module _ {M : Type 1} {𝓤 : Ura M} (𝓛 : Logic 𝓤) (mem : Memory → SProp 𝓤) (run : Routine → Fun 𝓤) (κ : Lft) (q : Share) (b o : ℕ) (γ : GName) (xs : List PayloadRow) (place' rows : ℕ) (p : PayloadRecord)
-    (room : Room Row (length xs)) (place-fits : place' < 2 ^ 64) (rows-fits : rows < 2 ^ 64) (p-is : Is Record p (recordVal p ∷ [])) (ask : (rows ≤ place') × (place' < length xs) × (last_of xs p.id rows + 1 < 2 ^ 64)) where
+    (room : Room Row (length xs)) (place-fits : place' < 2 ^ 64) (rows-fits : rows < 2 ^ 64) (p-is : Is Record p (record_val p ∷ [])) (ask : (rows ≤ place') × (place' < length xs) × (last_of xs p.id rows + 1 < 2 ^ 64)) where
   open 𝓛 use {H}
 
   abbrev Arg : Type 0
@@ -109,11 +109,11 @@ module _ {M : Type 1} {𝓤 : Ura M} (𝓛 : Logic 𝓤) (mem : Memory → SProp
   tv = slice_val (b, o) (length xs)
 
   abbrev at : List Val × (List Val × (List Val × (List Val × Unit {0})))
-  at = (tv ∷ [], (vint w64 place' ∷ [], (vint w64 rows ∷ [], (recordVal p ∷ [], tt))))
+  at = (tv ∷ [], (vint w64 place' ∷ [], (vint w64 rows ∷ [], (record_val p ∷ [], tt))))
 
   -- the new row, and the table with it
   abbrev new : PayloadRow
-  new = rowAfter xs rows p
+  new = row_after xs rows p
 
   abbrev zs : List PayloadRow
   zs = set xs place' new
@@ -161,15 +161,15 @@ module _ {M : Type 1} {𝓤 : Ura M} (𝓛 : Logic 𝓤) (mem : Memory → SProp
 
     module _ (l₀ l₁ l₂ l₃ l₄ l₅ l₆ l₇ l₈ l₉ l₁₀ l₁₁ l₁₂ l₁₃ l₁₄ l₁₅ l₁₆ : ℕ) where
       abbrev En : Env 𝓤 H
-      En = (ty_unit, l₀) ∷ (table, l₁) ∷ (word, l₂) ∷ (word, l₃) ∷ (recordTy, l₄) ∷ (word, l₅) ∷ (word, l₆) ∷ (ty_bool, l₇) ∷ (word, l₈) ∷ (ty_ptr, l₉) ∷ (word, l₁₀) ∷ (word, l₁₁) ∷ (ty_ptr, l₁₂) ∷ (word, l₁₃) ∷ (rowTy, l₁₄) ∷ (word, l₁₅) ∷ (ty_ptr, l₁₆) ∷ []
+      En = (ty_unit, l₀) ∷ (table, l₁) ∷ (word, l₂) ∷ (word, l₃) ∷ (record_ty, l₄) ∷ (word, l₅) ∷ (word, l₆) ∷ (ty_bool, l₇) ∷ (word, l₈) ∷ (ty_ptr, l₉) ∷ (word, l₁₀) ∷ (word, l₁₁) ∷ (ty_ptr, l₁₂) ∷ (word, l₁₃) ∷ (row_ty, l₁₄) ∷ (word, l₁₅) ∷ (ty_ptr, l₁₆) ∷ []
 
       -- [the rows; the open borrow; obs; auth; _16; …; _0; …]
       abbrev Base : ℕ → ℕ → List (Item 𝓤)
       Base left last = ‵ (row Row full_share xs b o) ∷ ‵ (fobor κ q (Held Row (length xs) b o γ)) ∷ ‵ (fobs γ ((coded_holeys Row).code (heres Row xs))) ∷ ‵ (fauth γ ((coded_holeys Row).code (heres Row xs)))
-          ∷ ‵ (froom ty_ptr l₁₆ 0) ∷ ‵ (fdies ty_ptr l₁₆) ∷ ‵ (froom word l₁₅ 0) ∷ ‵ (fdies word l₁₅) ∷ ‵ (froom rowTy l₁₄ 0) ∷ ‵ (fdies rowTy l₁₄) ∷ ‵ (froom word l₁₃ 0) ∷ ‵ (fdies word l₁₃)
+          ∷ ‵ (froom ty_ptr l₁₆ 0) ∷ ‵ (fdies ty_ptr l₁₆) ∷ ‵ (froom word l₁₅ 0) ∷ ‵ (fdies word l₁₅) ∷ ‵ (froom row_ty l₁₄ 0) ∷ ‵ (fdies row_ty l₁₄) ∷ ‵ (froom word l₁₃ 0) ∷ ‵ (fdies word l₁₃)
           ∷ ‵ (froom ty_ptr l₁₂ 0) ∷ ‵ (fdies ty_ptr l₁₂) ∷ ‵ (froom word l₁₁ 0) ∷ ‵ (fdies word l₁₁) ∷ ‵ (froom word l₁₀ 0) ∷ ‵ (fdies word l₁₀) ∷ ‵ (froom ty_ptr l₉ 0) ∷ ‵ (fdies ty_ptr l₉)
           ∷ ‵ (froom word l₈ 0) ∷ ‵ (fdies word l₈) ∷ ‵ (froom ty_bool l₇ 0) ∷ ‵ (fdies ty_bool l₇) ∷ ‵ (fat full_share word l₆ 0 (vint w64 last)) ∷ ‵ (fdies word l₆) ∷ ‵ (fat full_share word l₅ 0 (vint w64 left)) ∷ ‵ (fdies word l₅)
-          ∷ ‵ (fat full_share recordTy l₄ 0 (recordVal p)) ∷ ‵ (fdies recordTy l₄) ∷ ‵ (fat full_share word l₃ 0 (vint w64 rows)) ∷ ‵ (fdies word l₃) ∷ ‵ (fat full_share word l₂ 0 (vint w64 place')) ∷ ‵ (fdies word l₂) ∷ ‵ (fat full_share table l₁ 0 tv) ∷ ‵ (fdies table l₁)
+          ∷ ‵ (fat full_share record_ty l₄ 0 (record_val p)) ∷ ‵ (fdies record_ty l₄) ∷ ‵ (fat full_share word l₃ 0 (vint w64 rows)) ∷ ‵ (fdies word l₃) ∷ ‵ (fat full_share word l₂ 0 (vint w64 place')) ∷ ‵ (fdies word l₂) ∷ ‵ (fat full_share table l₁ 0 tv) ∷ ‵ (fdies table l₁)
           ∷ ‵ (froom ty_unit l₀ 0) ∷ ‵ (fdies ty_unit l₀) ∷ []
 
       abbrev At : St → List (Item 𝓤)
@@ -245,11 +245,11 @@ module _ {M : Type 1} {𝓤 : Ura M} (𝓛 : Logic 𝓤) (mem : Memory → SProp
       searching : Sq 𝓛 (Base rows 0) (runs C Λ En searches (at_ret En Post))
       searching = first ! $ blocks ! $ loops ! 𝓣 Nearer Nearer-wf At turns (all_left xs p.id rows)
 
-    walk : ent 𝓤 (on_entry 𝓛 put-row.signature (κ, tt) (q, tt) a at) (WpFn 𝓤 H C Λ code.function (tv ∷ vint w64 place' ∷ vint w64 rows ∷ recordVal p ∷ []) Post)
+    walk : ent 𝓤 (on_entry 𝓛 put-row.signature (κ, tt) (q, tt) a at) (WpFn 𝓤 H C Λ code.function (tv ∷ vint w64 place' ∷ vint w64 rows ∷ record_val p ∷ []) Post)
     walk =
-        qed 𝓛 ((‵ (flft κ q) ⊛ ‵ ftrue) ∷ ‵ (owns (MutSlice (named 0) κ Row ∷ usize ∷ usize ∷ Record ∷ []) a at) ∷ []) ∵ enter ! C Λ code.function (tv ∷ vint w64 place' ∷ vint w64 rows ∷ recordVal p ∷ []) _ $
+        qed 𝓛 ((‵ (flft κ q) ⊛ ‵ ftrue) ∷ ‵ (owns (MutSlice (named 0) κ Row ∷ usize ∷ usize ∷ Record ∷ []) a at) ∷ []) ∵ enter ! C Λ code.function (tv ∷ vint w64 place' ∷ vint w64 rows ∷ record_val p ∷ []) _ $
         alloc1 ! (λ l₀. alloc1 ! (λ l₁. alloc1 ! (λ l₂. alloc1 ! (λ l₃. alloc1 ! (λ l₄. alloc1 ! (λ l₅. alloc1 ! (λ l₆. alloc1 ! (λ l₇. alloc1 ! (λ l₈. alloc1 ! (λ l₉. alloc1 ! (λ l₁₀. alloc1 ! (λ l₁₁. alloc1 ! (λ l₁₂. alloc1 ! (λ l₁₃. alloc1 ! (λ l₁₄. alloc1 ! (λ l₁₅. alloc1 ! (λ l₁₆. alloc0 ! $ params1 ! $
-        pass1 ! (init ! 30 refl (tt, (tt, (record { fits = room.0 }, tt)))) $ pass1 ! (init ! 28 refl (tt, record { fits = place-fits })) $ pass1 ! (init ! 26 refl (tt, record { fits = rows-fits })) $ pass1 ! (init ! 24 refl (record-typed 𝓛 p (recordVal p) p-is)) $ pass0 ! $
+        pass1 ! (init ! 30 refl (tt, (tt, (record { fits = room.0 }, tt)))) $ pass1 ! (init ! 28 refl (tt, record { fits = place-fits })) $ pass1 ! (init ! 26 refl (tt, record { fits = rows-fits })) $ pass1 ! (init ! 24 refl (record-typed 𝓛 p (record_val p) p-is)) $ pass0 ! $
         assigns ! (of_opd ! (load ! (from ! (stop !)) (look ! 26 refl))) (from ! (stop !)) (init ! 22 refl (tt, record { fits = rows-fits })) $
         assigns ! (of_opd ! (lit ! tt)) (from ! (stop !)) (init ! 20 refl (tt, record { fits = lit< tt })) $
         -- [_16; …; _0; …; the token; what the parameters own]
@@ -263,7 +263,7 @@ module _ {M : Type 1} {𝓤 : Ura M} (𝓛 : Logic 𝓤) (mem : Memory → SProp
 
   put-row-walks : Walks 𝓛 put-row.ended stayed (WpFn 𝓤 H 𝓣.C 𝓣.Λ code.function) (put-row.clauses 𝓛 mem run)
   put-row-walks = walked 𝓛 put-row.ended stayed (put-row.clauses 𝓛 mem run) (WpFn 𝓤 H 𝓣.C 𝓣.Λ code.function)
-      (λ κs. (mut_slice_vals, (uint_vals w64, (uint_vals w64, ((λ r. recordVal r ∷ []), tt))))) (λ κs. (mut_slice_Tells (named 0) κs.0 Row, (uint_Tells w64, (uint_Tells w64, (record-tells, tt)))))
+      (λ κs. (mut_slice_vals, (uint_vals w64, (uint_vals w64, ((λ r. record_val r ∷ []), tt))))) (λ κs. (mut_slice_Tells (named 0) κs.0 Row, (uint_Tells w64, (uint_Tells w64, (record-tells, tt)))))
       (λ κs qs bounds a g are. needs 𝓤 ((a.1.1.0 ≤ a.1.0) × (a.1.0 < length a.0.now) × (last_of a.0.now a.1.1.1.0.id a.1.1.0 + 1 < 2 ^ 64)) _ (λ ask.
       walk 𝓛 mem run κs.0 qs.0 a.0.ref_ptr.0 a.0.ref_ptr.1 a.0.ghost_name a.0.now a.1.0 a.1.1.0 a.1.1.1.0 are.0.0.1 are.1.0.1 are.1.1.0.1 are.1.1.1.0 ask 𝓣))
 

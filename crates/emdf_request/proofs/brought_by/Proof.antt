@@ -5,7 +5,7 @@ use native.Mathlib.Omega.{arith}
 use borrow.Author.Tests.{lt-ltb}
 use lib.ListN.{length}
 use lib.Dec.{lit<}
-use Rattle.emdf_format.specs.Contents.{extensionBits}
+use Rattle.emdf_format.specs.Contents.{extension_bits}
 use Rattle.emdf_measure.proofs.Asked.{groups-few, extension-few}
 use Rattle.emdf_request.specs.Requests.{bringing}
 use Rattle.emdf_request.proofs.brought_by.Statement.{statement}
@@ -73,7 +73,7 @@ returns-5 : tie.Need-returns-5
 unfolding bringing
 returns-5 c =
     let d = c.before.before.request3.given in
-    let f : c.key-bits.result - 2 ≡ 3 + extensionBits 3 d.0.0 = omega (arith, c.key-bits.ensures) in
+    let f : c.key-bits.result - 2 ≡ 3 + extension_bits 3 d.0.0 = omega (arith, c.key-bits.ensures) in
     (rw (d.1, lt-ltb d.0.0 (2 ^ 64) (omega arith), f), omega (arith, c.key-bits.ensures, extension-few 3 d.0.0 (lit< tt) (lit< tt) (omega arith)))
 
 returns-6 : tie.Need-returns-6

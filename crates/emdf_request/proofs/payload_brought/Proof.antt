@@ -5,7 +5,7 @@ use lib.ListN.{length}
 use lib.Dec.{lit<}
 use mathlib.Core.Path.{◌≡◌}
 use Rattle.emdf_format.specs.Syntax.{groups}
-use Rattle.emdf_format.specs.Contents.{writablePayload, extensionBits, neededConfig}
+use Rattle.emdf_format.specs.Contents.{writable_payload, extension_bits, needed_config}
 use Rattle.emdf_measure.proofs.Asked.{groups-few, extension-few}
 use Rattle.emdf_request.specs.Requests.{bringing}
 use Rattle.emdf_request.proofs.payload_brought.Statement.{statement}
@@ -36,11 +36,11 @@ add-t10 : tie.Need-overflow-add-t10
 add-t10 c = omega (arith, all-few c)
 
 returns : tie.Need-returns
-unfolding bringing writablePayload
+unfolding bringing writable_payload
 returns c =
     let k = c.before.before.before in
     let a = k.before.before.args in
-    let f : c.before.before.id-bits.result + c.before.config-bits.result + c.size-bits.result ≡ 5 + extensionBits 5 a.id + neededConfig a.config + 9 * groups 8 (length a.body.now) =
+    let f : c.before.before.id-bits.result + c.before.config-bits.result + c.size-bits.result ≡ 5 + extension_bits 5 a.id + needed_config a.config + 9 * groups 8 (length a.body.now) =
     omega (arith, c.before.before.id-bits.ensures, c.before.config-bits.ensures.0, c.size-bits.ensures) in
     (rw (k.writable-payload.ensures, f), all-few c)
 

@@ -1,6 +1,6 @@
 use borrow.Author.Rules.{rules}
-use Rattle.emdf_format.specs.Edits.{placeExists}
-use Rattle.emdf_request.specs.Requests.{editOf}
+use Rattle.emdf_format.specs.Edits.{place_exists}
+use Rattle.emdf_request.specs.Requests.{edit_of}
 use Rattle.emdf_request.proofs.place_exists.Statement.{statement}
 use Rattle.emdf_request.proofs.place_exists.Tie as tie
 
@@ -23,27 +23,27 @@ enum-told-2 : tie.Need-enum-told-2
 enum-told-2 c = search rules
 
 returns : tie.Need-returns
-unfolding placeExists editOf
+unfolding place_exists edit_of
 returns c = rw c.before.request.given.1
 
 returns-2 : tie.Need-returns-2
-unfolding placeExists editOf
+unfolding place_exists edit_of
 returns-2 c = rw c.before.request2.given.1
 
 returns-3 : tie.Need-returns-3
-unfolding placeExists editOf
+unfolding place_exists edit_of
 returns-3 c = rw c.before.request3.given.1
 
 returns-4 : tie.Need-returns-4
-unfolding placeExists editOf
+unfolding place_exists edit_of
 returns-4 c = rw c.before.request4.given.1
 
 returns-5 : tie.Need-returns-5
-unfolding placeExists editOf
+unfolding place_exists edit_of
 returns-5 c = rw c.enum_told.given.1
 
 returns-6 : tie.Need-returns-6
-unfolding placeExists editOf
+unfolding place_exists edit_of
 returns-6 c = rw c.enum-told2.given.1
 
 pub place-exists-spec : {M : Type 1} → statement M

@@ -2,16 +2,16 @@ use borrow.Author.Rules.{rules}
 use Prim.Native.Nat.{ℕ}
 use mathlib.Core.Path.{◌≡◌, ap, ◌∙◌}
 use native.Mathlib.Omega.{arith}
-use Rattle.emdf_ordinals.specs.Rows.{lastOrdinal}
-use Rattle.emdf_rows.specs.Rows.{idColumn, ordinalColumn, lastIn}
+use Rattle.emdf_ordinals.specs.Rows.{last_ordinal}
+use Rattle.emdf_rows.specs.Rows.{id_column, ordinal_column, last_in}
 use Rattle.emdf_rows.proofs.next_ordinal.Statement.{statement}
 use Rattle.emdf_rows.proofs.next_ordinal.Tie as tie
 
 -- what is found is the last ordinal in the rows that are searched
-found : (c : tie.After-last-ordinal) → c.last-ordinal.result ≡ lastIn c.before.before.before.before.before.before.before.args.table.now c.before.before.before.before.before.before.before.args.slots.now c.before.before.before.before.before.before.before.args.place c.before.before.before.before.before.before.before.args.id
+found : (c : tie.After-last-ordinal) → c.last-ordinal.result ≡ last_in c.before.before.before.before.before.before.before.args.table.now c.before.before.before.before.before.before.before.args.slots.now c.before.before.before.before.before.before.before.args.place c.before.before.before.before.before.before.before.args.id
 found c =
     let a = c.before.before.before.before.before.before.before.args in
-    c.last-ordinal.ensures ∙ ap (λ (n : ℕ). lastOrdinal (idColumn a.table.now) (ordinalColumn a.table.now) a.id n) c.before.before.before.take-slot.ensures.0
+    c.last-ordinal.ensures ∙ ap (λ (n : ℕ). last_ordinal (id_column a.table.now) (ordinal_column a.table.now) a.id n) c.before.before.before.take-slot.ensures.0
 
 take-slot-requires : tie.Need-take-slot-requires
 take-slot-requires c κs = search rules

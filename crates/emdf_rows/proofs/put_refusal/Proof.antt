@@ -1,5 +1,5 @@
 use borrow.Author.Rules.{rules}
-use Rattle.emdf_answers.specs.Carriers.{readReply}
+use Rattle.emdf_answers.specs.Carriers.{read_reply}
 use Rattle.emdf_rows.proofs.put_refusal.Statement.{statement}
 use Rattle.emdf_rows.proofs.put_refusal.Tie as tie
 
@@ -16,7 +16,7 @@ put-reading-requires : tie.Need-put-reading-requires
 put-reading-requires c κs = search rules
 
 returns : tie.Need-returns
-unfolding readReply
+unfolding read_reply
 returns c =
     let w = c.before.figure-words.ensures in
     let f = c.before.before.before.figures-of.ensures in

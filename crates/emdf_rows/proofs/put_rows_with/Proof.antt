@@ -9,7 +9,7 @@ use Rattle.emdf_format.specs.Reading.{Found}
 use Rattle.emdf_format.specs.Ordinals.{ids_in, rows_of}
 use Rattle.emdf_format.proofs.Ordinals.{length-ids-in}
 use Rattle.emdf_payloads.specs.Payloads.{Listed}
-use Rattle.emdf_answers.specs.Carriers.{rowsBytes}
+use Rattle.emdf_answers.specs.Carriers.{rows_bytes}
 use Rattle.emdf_rows.proofs.Rows.{Left, left-all, left-searchable, left-payload, left_step, left-none}
 use Rattle.emdf_rows.proofs.put_rows_with.Statement.{statement}
 use Rattle.emdf_rows.proofs.put_rows_with.Tie as tie
@@ -19,7 +19,7 @@ invariant-loop table₀ slots₀ s count at₀ place₀ table slots at place =
     (place ≤ count)
     × (length table ≡ length table₀)
     × (length slots ≡ length slots₀)
-    × ((xs : List Found) → Listed s at₀ xs → length xs ≡ count → Left s at (ids_in xs) place count table slots (sets table₀ 0 (rowsBytes (rows_of xs))))
+    × ((xs : List Found) → Listed s at₀ xs → length xs ≡ count → Left s at (ids_in xs) place count table slots (sets table₀ 0 (rows_bytes (rows_of xs))))
 
 abbrev decreases-loop : tie.decreases-loop
 decreases-loop table₀ slots₀ s count at₀ place₀ table slots at place = count - place

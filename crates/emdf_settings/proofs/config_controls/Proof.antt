@@ -1,9 +1,9 @@
 use borrow.Author.Rules.{rules}
 use mathlib.Core.Path.{refl, sym, ◌∙◌}
-use Rattle.emdf_settings.specs.Settings.{configAnswer}
+use Rattle.emdf_settings.specs.Settings.{config_answer}
 use Rattle.emdf_settings.specs.declared.ConfigAnswer.TheVariants.{Refused}
 use Rattle.emdf_format.specs.Reader.{give}
-use Rattle.emdf_format.specs.Reading.{configControls}
+use Rattle.emdf_format.specs.Reading.{config_controls}
 use Rattle.emdf_settings.proofs.Answers.{optional-found, by-optional, present-as, config-refuses}
 use Rattle.emdf_fields.proofs.Answers.{via}
 use Rattle.emdf_settings.proofs.config_controls.Statement.{statement}
@@ -25,8 +25,8 @@ optional-error-requires : tie.Need-optional-error-requires
 optional-error-requires c κs = search rules
 
 returns : tie.Need-returns
-unfolding configControls configAnswer give
-returns c = by-optional configAnswer Refused config-refuses _ _ _ _ _ (present-as _ _ _ _ c.before.before.before.present-bits.ensures c.before.before.before.before.has-aligned.ensures) c.before.enum_told.given.1 c.optional-error.ensures
+unfolding config_controls config_answer give
+returns c = by-optional config_answer Refused config-refuses _ _ _ _ _ (present-as _ _ _ _ c.before.before.before.present-bits.ensures c.before.before.before.before.has-aligned.ensures) c.before.enum_told.given.1 c.optional-error.ensures
 
 is-one-requires : tie.Need-is-one-requires
 is-one-requires c κs = search rules
@@ -44,8 +44,8 @@ optional-error-requires-2 : tie.Need-optional-error-requires-2
 optional-error-requires-2 c κs = search rules
 
 returns-2 : tie.Need-returns-2
-unfolding configControls configAnswer give
-returns-2 c = via configAnswer _ _ _ _ _ (optional-found _ (sym (present-as _ _ _ _ c.before.before.before.before.before.before.before.before.present-bits.ensures c.before.before.before.before.before.before.before.before.before.has-aligned.ensures) ∙ c.before.before.before.before.before.before.a1.given.1)) (by-optional configAnswer Refused config-refuses _ _ _ _ _ (present-as _ _ _ _ c.before.before.before.present-bits2.ensures c.before.before.before.before.is_one.ensures) c.before.enum-told2.given.1 c.optional-error2.ensures)
+unfolding config_controls config_answer give
+returns-2 c = via config_answer _ _ _ _ _ (optional-found _ (sym (present-as _ _ _ _ c.before.before.before.before.before.before.before.before.present-bits.ensures c.before.before.before.before.before.before.before.before.before.has-aligned.ensures) ∙ c.before.before.before.before.before.before.a1.given.1)) (by-optional config_answer Refused config-refuses _ _ _ _ _ (present-as _ _ _ _ c.before.before.before.present-bits2.ensures c.before.before.before.before.is_one.ensures) c.before.enum-told2.given.1 c.optional-error2.ensures)
 
 is-one-requires-2 : tie.Need-is-one-requires-2
 is-one-requires-2 c κs = search rules
@@ -63,8 +63,8 @@ optional-error-requires-3 : tie.Need-optional-error-requires-3
 optional-error-requires-3 c κs = search rules
 
 returns-3 : tie.Need-returns-3
-unfolding configControls configAnswer give
-returns-3 c = via configAnswer _ _ _ _ _ (optional-found _ (sym (present-as _ _ _ _ c.before.before.before.before.before.before.before.before.before.before.before.before.before.present-bits.ensures c.before.before.before.before.before.before.before.before.before.before.before.before.before.before.has-aligned.ensures) ∙ c.before.before.before.before.before.before.before.before.before.before.before.a1.given.1)) (via configAnswer _ _ _ _ _ (optional-found _ (sym (present-as _ _ _ _ c.before.before.before.before.before.before.before.before.present-bits2.ensures c.before.before.before.before.before.before.before.before.before.is_one.ensures) ∙ c.before.before.before.before.before.before.a2.given.1)) (by-optional configAnswer Refused config-refuses _ _ _ _ _ (present-as _ _ _ _ c.before.before.before.present-bits3.ensures c.before.before.before.before.is-one2.ensures) c.before.enum-told3.given.1 c.optional-error3.ensures))
+unfolding config_controls config_answer give
+returns-3 c = via config_answer _ _ _ _ _ (optional-found _ (sym (present-as _ _ _ _ c.before.before.before.before.before.before.before.before.before.before.before.before.before.present-bits.ensures c.before.before.before.before.before.before.before.before.before.before.before.before.before.before.has-aligned.ensures) ∙ c.before.before.before.before.before.before.before.before.before.before.before.a1.given.1)) (via config_answer _ _ _ _ _ (optional-found _ (sym (present-as _ _ _ _ c.before.before.before.before.before.before.before.before.present-bits2.ensures c.before.before.before.before.before.before.before.before.before.is_one.ensures) ∙ c.before.before.before.before.before.before.a2.given.1)) (by-optional config_answer Refused config-refuses _ _ _ _ _ (present-as _ _ _ _ c.before.before.before.present-bits3.ensures c.before.before.before.before.is-one2.ensures) c.before.enum-told3.given.1 c.optional-error3.ensures))
 
 has-priority-requires : tie.Need-has-priority-requires
 has-priority-requires c κs = search rules
@@ -82,8 +82,8 @@ optional-error-requires-4 : tie.Need-optional-error-requires-4
 optional-error-requires-4 c κs = search rules
 
 returns-4 : tie.Need-returns-4
-unfolding configControls configAnswer give
-returns-4 c = via configAnswer _ _ _ _ _ (optional-found _ (sym (present-as _ _ _ _ c.before.before.before.before.before.before.before.before.before.before.before.before.before.before.before.before.before.before.present-bits.ensures c.before.before.before.before.before.before.before.before.before.before.before.before.before.before.before.before.before.before.before.has-aligned.ensures) ∙ c.before.before.before.before.before.before.before.before.before.before.before.before.before.before.before.before.a1.given.1)) (via configAnswer _ _ _ _ _ (optional-found _ (sym (present-as _ _ _ _ c.before.before.before.before.before.before.before.before.before.before.before.before.before.present-bits2.ensures c.before.before.before.before.before.before.before.before.before.before.before.before.before.before.is_one.ensures) ∙ c.before.before.before.before.before.before.before.before.before.before.before.a2.given.1)) (via configAnswer _ _ _ _ _ (optional-found _ (sym (present-as _ _ _ _ c.before.before.before.before.before.before.before.before.present-bits3.ensures c.before.before.before.before.before.before.before.before.before.is-one2.ensures) ∙ c.before.before.before.before.before.before.a3.given.1)) (by-optional configAnswer Refused config-refuses _ _ _ _ _ (present-as _ _ _ _ c.before.before.before.present-bits4.ensures c.before.before.before.before.has-priority.ensures) c.before.enum-told4.given.1 c.optional-error4.ensures)))
+unfolding config_controls config_answer give
+returns-4 c = via config_answer _ _ _ _ _ (optional-found _ (sym (present-as _ _ _ _ c.before.before.before.before.before.before.before.before.before.before.before.before.before.before.before.before.before.before.present-bits.ensures c.before.before.before.before.before.before.before.before.before.before.before.before.before.before.before.before.before.before.before.has-aligned.ensures) ∙ c.before.before.before.before.before.before.before.before.before.before.before.before.before.before.before.before.a1.given.1)) (via config_answer _ _ _ _ _ (optional-found _ (sym (present-as _ _ _ _ c.before.before.before.before.before.before.before.before.before.before.before.before.before.present-bits2.ensures c.before.before.before.before.before.before.before.before.before.before.before.before.before.before.is_one.ensures) ∙ c.before.before.before.before.before.before.before.before.before.before.before.a2.given.1)) (via config_answer _ _ _ _ _ (optional-found _ (sym (present-as _ _ _ _ c.before.before.before.before.before.before.before.before.present-bits3.ensures c.before.before.before.before.before.before.before.before.before.is-one2.ensures) ∙ c.before.before.before.before.before.before.a3.given.1)) (by-optional config_answer Refused config-refuses _ _ _ _ _ (present-as _ _ _ _ c.before.before.before.present-bits4.ensures c.before.before.before.before.has-priority.ensures) c.before.enum-told4.given.1 c.optional-error4.ensures)))
 
 present-bits-requires-5 : tie.Need-present-bits-requires-5
 present-bits-requires-5 c κs = search rules
@@ -98,12 +98,12 @@ optional-error-requires-5 : tie.Need-optional-error-requires-5
 optional-error-requires-5 c κs = search rules
 
 returns-5 : tie.Need-returns-5
-unfolding configControls configAnswer give
-returns-5 c = via configAnswer _ _ _ _ _ (optional-found _ (sym (present-as _ _ _ _ c.before.before.before.before.before.before.before.before.before.before.before.before.before.before.before.before.before.before.before.before.before.before.present-bits.ensures c.before.before.before.before.before.before.before.before.before.before.before.before.before.before.before.before.before.before.before.before.before.before.before.has-aligned.ensures) ∙ c.before.before.before.before.before.before.before.before.before.before.before.before.before.before.before.before.before.before.before.before.a1.given.1)) (via configAnswer _ _ _ _ _ (optional-found _ (sym (present-as _ _ _ _ c.before.before.before.before.before.before.before.before.before.before.before.before.before.before.before.before.before.present-bits2.ensures c.before.before.before.before.before.before.before.before.before.before.before.before.before.before.before.before.before.before.is_one.ensures) ∙ c.before.before.before.before.before.before.before.before.before.before.before.before.before.before.before.a2.given.1)) (via configAnswer _ _ _ _ _ (optional-found _ (sym (present-as _ _ _ _ c.before.before.before.before.before.before.before.before.before.before.before.before.present-bits3.ensures c.before.before.before.before.before.before.before.before.before.before.before.before.before.is-one2.ensures) ∙ c.before.before.before.before.before.before.before.before.before.before.a3.given.1)) (via configAnswer _ _ _ _ _ (optional-found _ (sym (present-as _ _ _ _ c.before.before.before.before.before.before.before.present-bits4.ensures c.before.before.before.before.before.before.before.before.has-priority.ensures) ∙ c.before.before.before.before.before.a4.given.1)) (by-optional configAnswer Refused config-refuses _ _ _ _ _ (present-as _ _ _ _ c.before.before.before.present-bits5.ensures c.before.before.before.before.before.before.before.before.has-priority.ensures) c.before.enum-told5.given.1 c.optional-error5.ensures))))
+unfolding config_controls config_answer give
+returns-5 c = via config_answer _ _ _ _ _ (optional-found _ (sym (present-as _ _ _ _ c.before.before.before.before.before.before.before.before.before.before.before.before.before.before.before.before.before.before.before.before.before.before.present-bits.ensures c.before.before.before.before.before.before.before.before.before.before.before.before.before.before.before.before.before.before.before.before.before.before.before.has-aligned.ensures) ∙ c.before.before.before.before.before.before.before.before.before.before.before.before.before.before.before.before.before.before.before.before.a1.given.1)) (via config_answer _ _ _ _ _ (optional-found _ (sym (present-as _ _ _ _ c.before.before.before.before.before.before.before.before.before.before.before.before.before.before.before.before.before.present-bits2.ensures c.before.before.before.before.before.before.before.before.before.before.before.before.before.before.before.before.before.before.is_one.ensures) ∙ c.before.before.before.before.before.before.before.before.before.before.before.before.before.before.before.a2.given.1)) (via config_answer _ _ _ _ _ (optional-found _ (sym (present-as _ _ _ _ c.before.before.before.before.before.before.before.before.before.before.before.before.present-bits3.ensures c.before.before.before.before.before.before.before.before.before.before.before.before.before.is-one2.ensures) ∙ c.before.before.before.before.before.before.before.before.before.before.a3.given.1)) (via config_answer _ _ _ _ _ (optional-found _ (sym (present-as _ _ _ _ c.before.before.before.before.before.before.before.present-bits4.ensures c.before.before.before.before.before.before.before.before.has-priority.ensures) ∙ c.before.before.before.before.before.a4.given.1)) (by-optional config_answer Refused config-refuses _ _ _ _ _ (present-as _ _ _ _ c.before.before.before.present-bits5.ensures c.before.before.before.before.before.before.before.before.has-priority.ensures) c.before.enum-told5.given.1 c.optional-error5.ensures))))
 
 returns-6 : tie.Need-returns-6
-unfolding configControls configAnswer give
-returns-6 c = via configAnswer _ _ _ _ _ (optional-found _ (sym (present-as _ _ _ _ c.before.before.before.before.before.before.before.before.before.before.before.before.before.before.before.before.before.before.before.before.before.before.present-bits.ensures c.before.before.before.before.before.before.before.before.before.before.before.before.before.before.before.before.before.before.before.before.before.before.before.has-aligned.ensures) ∙ c.before.before.before.before.before.before.before.before.before.before.before.before.before.before.before.before.before.before.before.before.a1.given.1)) (via configAnswer _ _ _ _ _ (optional-found _ (sym (present-as _ _ _ _ c.before.before.before.before.before.before.before.before.before.before.before.before.before.before.before.before.before.present-bits2.ensures c.before.before.before.before.before.before.before.before.before.before.before.before.before.before.before.before.before.before.is_one.ensures) ∙ c.before.before.before.before.before.before.before.before.before.before.before.before.before.before.before.a2.given.1)) (via configAnswer _ _ _ _ _ (optional-found _ (sym (present-as _ _ _ _ c.before.before.before.before.before.before.before.before.before.before.before.before.present-bits3.ensures c.before.before.before.before.before.before.before.before.before.before.before.before.before.is-one2.ensures) ∙ c.before.before.before.before.before.before.before.before.before.before.a3.given.1)) (via configAnswer _ _ _ _ _ (optional-found _ (sym (present-as _ _ _ _ c.before.before.before.before.before.before.before.present-bits4.ensures c.before.before.before.before.before.before.before.before.has-priority.ensures) ∙ c.before.before.before.before.before.a4.given.1)) (via configAnswer _ _ _ _ _ (optional-found _ (sym (present-as _ _ _ _ c.before.before.before.present-bits5.ensures c.before.before.before.before.before.before.before.before.has-priority.ensures) ∙ c.before.a5.given.1)) refl))))
+unfolding config_controls config_answer give
+returns-6 c = via config_answer _ _ _ _ _ (optional-found _ (sym (present-as _ _ _ _ c.before.before.before.before.before.before.before.before.before.before.before.before.before.before.before.before.before.before.before.before.before.before.present-bits.ensures c.before.before.before.before.before.before.before.before.before.before.before.before.before.before.before.before.before.before.before.before.before.before.before.has-aligned.ensures) ∙ c.before.before.before.before.before.before.before.before.before.before.before.before.before.before.before.before.before.before.before.before.a1.given.1)) (via config_answer _ _ _ _ _ (optional-found _ (sym (present-as _ _ _ _ c.before.before.before.before.before.before.before.before.before.before.before.before.before.before.before.before.before.present-bits2.ensures c.before.before.before.before.before.before.before.before.before.before.before.before.before.before.before.before.before.before.is_one.ensures) ∙ c.before.before.before.before.before.before.before.before.before.before.before.before.before.before.before.a2.given.1)) (via config_answer _ _ _ _ _ (optional-found _ (sym (present-as _ _ _ _ c.before.before.before.before.before.before.before.before.before.before.before.before.present-bits3.ensures c.before.before.before.before.before.before.before.before.before.before.before.before.before.is-one2.ensures) ∙ c.before.before.before.before.before.before.before.before.before.before.a3.given.1)) (via config_answer _ _ _ _ _ (optional-found _ (sym (present-as _ _ _ _ c.before.before.before.before.before.before.before.present-bits4.ensures c.before.before.before.before.before.before.before.before.has-priority.ensures) ∙ c.before.before.before.before.before.a4.given.1)) (via config_answer _ _ _ _ _ (optional-found _ (sym (present-as _ _ _ _ c.before.before.before.present-bits5.ensures c.before.before.before.before.before.before.before.before.has-priority.ensures) ∙ c.before.a5.given.1)) refl))))
 
 pub config-controls-spec : {M : Type 1} → statement M
 config-controls-spec =

@@ -1,5 +1,5 @@
 use borrow.Author.Rules.{rules}
-use Rattle.emdf_format.specs.Contents.{isPresent}
+use Rattle.emdf_format.specs.Contents.{is_present}
 use Rattle.emdf_settings.proofs.is_present.Statement.{statement}
 use Rattle.emdf_settings.proofs.is_present.Tie as tie
 
@@ -10,11 +10,11 @@ enum-told-2 : tie.Need-enum-told-2
 enum-told-2 c = search rules
 
 returns : tie.Need-returns
-unfolding isPresent
+unfolding is_present
 returns c = rw c.enum_told.given.1
 
 returns-2 : tie.Need-returns-2
-unfolding isPresent
+unfolding is_present
 returns-2 c = rw c.enum-told2.given.1
 
 pub is-present-spec : {M : Type 1} → statement M

@@ -1,8 +1,8 @@
 use borrow.Author.Rules.{rules}
 use mathlib.Core.Path.{sym, ◌∙◌}
-use Rattle.emdf_settings.specs.Settings.{configAnswer}
+use Rattle.emdf_settings.specs.Settings.{config_answer}
 use Rattle.emdf_settings.specs.declared.ConfigAnswer.TheVariants.{Refused}
-use Rattle.emdf_format.specs.Reading.{payloadConfig}
+use Rattle.emdf_format.specs.Reading.{payload_config}
 use Rattle.emdf_fields.proofs.Answers.{field_found, via, by_field}
 use Rattle.emdf_settings.proofs.Answers.{optional-found, by-optional, config-refuses}
 use Rattle.emdf_settings.proofs.payload_config.Statement.{statement}
@@ -21,8 +21,8 @@ optional-error-requires : tie.Need-optional-error-requires
 optional-error-requires c κs = search rules
 
 returns : tie.Need-returns
-unfolding payloadConfig
-returns c = by-optional configAnswer Refused config-refuses _ _ _ _ _ c.before.before.before.sample-offset.ensures c.before.enum_told.given.1 c.optional-error.ensures
+unfolding payload_config
+returns c = by-optional config_answer Refused config-refuses _ _ _ _ _ c.before.before.before.sample-offset.ensures c.before.enum_told.given.1 c.optional-error.ensures
 
 flagged-variable-requires : tie.Need-flagged-variable-requires
 flagged-variable-requires c κs = search rules
@@ -37,8 +37,8 @@ optional-error-requires-2 : tie.Need-optional-error-requires-2
 optional-error-requires-2 c κs = search rules
 
 returns-2 : tie.Need-returns-2
-unfolding payloadConfig
-returns-2 c = via configAnswer _ _ _ _ _ (optional-found _ (sym c.before.before.before.before.before.before.before.sample-offset.ensures ∙ c.before.before.before.before.before.a1.given.1)) (by-optional configAnswer Refused config-refuses _ _ _ _ _ c.before.before.before.flagged-variable.ensures c.before.enum-told2.given.1 c.optional-error2.ensures)
+unfolding payload_config
+returns-2 c = via config_answer _ _ _ _ _ (optional-found _ (sym c.before.before.before.before.before.before.before.sample-offset.ensures ∙ c.before.before.before.before.before.a1.given.1)) (by-optional config_answer Refused config-refuses _ _ _ _ _ c.before.before.before.flagged-variable.ensures c.before.enum-told2.given.1 c.optional-error2.ensures)
 
 flagged-variable-requires-2 : tie.Need-flagged-variable-requires-2
 flagged-variable-requires-2 c κs = search rules
@@ -53,8 +53,8 @@ optional-error-requires-3 : tie.Need-optional-error-requires-3
 optional-error-requires-3 c κs = search rules
 
 returns-3 : tie.Need-returns-3
-unfolding payloadConfig
-returns-3 c = via configAnswer _ _ _ _ _ (optional-found _ (sym c.before.before.before.before.before.before.before.before.before.before.before.sample-offset.ensures ∙ c.before.before.before.before.before.before.before.before.before.a1.given.1)) (via configAnswer _ _ _ _ _ (optional-found _ (sym c.before.before.before.before.before.before.before.flagged-variable.ensures ∙ c.before.before.before.before.before.a2.given.1)) (by-optional configAnswer Refused config-refuses _ _ _ _ _ c.before.before.before.flagged-variable2.ensures c.before.enum-told3.given.1 c.optional-error3.ensures))
+unfolding payload_config
+returns-3 c = via config_answer _ _ _ _ _ (optional-found _ (sym c.before.before.before.before.before.before.before.before.before.before.before.sample-offset.ensures ∙ c.before.before.before.before.before.before.before.before.before.a1.given.1)) (via config_answer _ _ _ _ _ (optional-found _ (sym c.before.before.before.before.before.before.before.flagged-variable.ensures ∙ c.before.before.before.before.before.a2.given.1)) (by-optional config_answer Refused config-refuses _ _ _ _ _ c.before.before.before.flagged-variable2.ensures c.before.enum-told3.given.1 c.optional-error3.ensures))
 
 codec-data-requires : tie.Need-codec-data-requires
 codec-data-requires c κs = search rules
@@ -69,8 +69,8 @@ field-error-requires : tie.Need-field-error-requires
 field-error-requires c κs = search rules
 
 returns-4 : tie.Need-returns-4
-unfolding payloadConfig
-returns-4 c = via configAnswer _ _ _ _ _ (optional-found _ (sym c.before.before.before.before.before.before.before.before.before.before.before.before.before.before.before.sample-offset.ensures ∙ c.before.before.before.before.before.before.before.before.before.before.before.before.before.a1.given.1)) (via configAnswer _ _ _ _ _ (optional-found _ (sym c.before.before.before.before.before.before.before.before.before.before.before.flagged-variable.ensures ∙ c.before.before.before.before.before.before.before.before.before.a2.given.1)) (via configAnswer _ _ _ _ _ (optional-found _ (sym c.before.before.before.before.before.before.before.flagged-variable2.ensures ∙ c.before.before.before.before.before.a3.given.1)) (by_field configAnswer Refused config-refuses _ _ _ _ _ c.before.before.before.codec-data.ensures c.before.enum-told4.given.1 c.field-error.ensures)))
+unfolding payload_config
+returns-4 c = via config_answer _ _ _ _ _ (optional-found _ (sym c.before.before.before.before.before.before.before.before.before.before.before.before.before.before.before.sample-offset.ensures ∙ c.before.before.before.before.before.before.before.before.before.before.before.before.before.a1.given.1)) (via config_answer _ _ _ _ _ (optional-found _ (sym c.before.before.before.before.before.before.before.before.before.before.before.flagged-variable.ensures ∙ c.before.before.before.before.before.before.before.before.before.a2.given.1)) (via config_answer _ _ _ _ _ (optional-found _ (sym c.before.before.before.before.before.before.before.flagged-variable2.ensures ∙ c.before.before.before.before.before.a3.given.1)) (by_field config_answer Refused config-refuses _ _ _ _ _ c.before.before.before.codec-data.ensures c.before.enum-told4.given.1 c.field-error.ensures)))
 
 read-bits-requires : tie.Need-read-bits-requires
 read-bits-requires c κs = search rules
@@ -85,15 +85,15 @@ field-error-requires-2 : tie.Need-field-error-requires-2
 field-error-requires-2 c κs = search rules
 
 returns-5 : tie.Need-returns-5
-unfolding payloadConfig
-returns-5 c = via configAnswer _ _ _ _ _ (optional-found _ (sym c.before.before.before.before.before.before.before.before.before.before.before.before.before.before.before.before.before.before.before.sample-offset.ensures ∙ c.before.before.before.before.before.before.before.before.before.before.before.before.before.before.before.before.before.a1.given.1)) (via configAnswer _ _ _ _ _ (optional-found _ (sym c.before.before.before.before.before.before.before.before.before.before.before.before.before.before.before.flagged-variable.ensures ∙ c.before.before.before.before.before.before.before.before.before.before.before.before.before.a2.given.1)) (via configAnswer _ _ _ _ _ (optional-found _ (sym c.before.before.before.before.before.before.before.before.before.before.before.flagged-variable2.ensures ∙ c.before.before.before.before.before.before.before.before.before.a3.given.1)) (via configAnswer _ _ _ _ _ (field_found _ (sym c.before.before.before.before.before.before.before.codec-data.ensures ∙ c.before.before.before.before.before.a4.given.1)) (by_field configAnswer Refused config-refuses _ _ _ _ _ c.before.before.before.read-bits.ensures c.before.enum-told5.given.1 c.field-error2.ensures))))
+unfolding payload_config
+returns-5 c = via config_answer _ _ _ _ _ (optional-found _ (sym c.before.before.before.before.before.before.before.before.before.before.before.before.before.before.before.before.before.before.before.sample-offset.ensures ∙ c.before.before.before.before.before.before.before.before.before.before.before.before.before.before.before.before.before.a1.given.1)) (via config_answer _ _ _ _ _ (optional-found _ (sym c.before.before.before.before.before.before.before.before.before.before.before.before.before.before.before.flagged-variable.ensures ∙ c.before.before.before.before.before.before.before.before.before.before.before.before.before.a2.given.1)) (via config_answer _ _ _ _ _ (optional-found _ (sym c.before.before.before.before.before.before.before.before.before.before.before.flagged-variable2.ensures ∙ c.before.before.before.before.before.before.before.before.before.a3.given.1)) (via config_answer _ _ _ _ _ (field_found _ (sym c.before.before.before.before.before.before.before.codec-data.ensures ∙ c.before.before.before.before.before.a4.given.1)) (by_field config_answer Refused config-refuses _ _ _ _ _ c.before.before.before.read-bits.ensures c.before.enum-told5.given.1 c.field-error2.ensures))))
 
 config-controls-requires : tie.Need-config-controls-requires
 config-controls-requires c κs = search rules
 
 returns-6 : tie.Need-returns-6
-unfolding payloadConfig
-returns-6 c = via configAnswer _ _ _ _ _ (optional-found _ (sym c.before.before.before.before.before.before.before.before.before.before.before.before.before.before.before.before.before.before.before.before.sample-offset.ensures ∙ c.before.before.before.before.before.before.before.before.before.before.before.before.before.before.before.before.before.before.a1.given.1)) (via configAnswer _ _ _ _ _ (optional-found _ (sym c.before.before.before.before.before.before.before.before.before.before.before.before.before.before.before.before.flagged-variable.ensures ∙ c.before.before.before.before.before.before.before.before.before.before.before.before.before.before.a2.given.1)) (via configAnswer _ _ _ _ _ (optional-found _ (sym c.before.before.before.before.before.before.before.before.before.before.before.before.flagged-variable2.ensures ∙ c.before.before.before.before.before.before.before.before.before.before.a3.given.1)) (via configAnswer _ _ _ _ _ (field_found _ (sym c.before.before.before.before.before.before.before.before.codec-data.ensures ∙ c.before.before.before.before.before.before.a4.given.1)) (via configAnswer _ _ _ _ _ (field_found _ (sym c.before.before.before.before.read-bits.ensures ∙ c.before.before.a5.given.1)) c.config-controls.ensures))))
+unfolding payload_config
+returns-6 c = via config_answer _ _ _ _ _ (optional-found _ (sym c.before.before.before.before.before.before.before.before.before.before.before.before.before.before.before.before.before.before.before.before.sample-offset.ensures ∙ c.before.before.before.before.before.before.before.before.before.before.before.before.before.before.before.before.before.before.a1.given.1)) (via config_answer _ _ _ _ _ (optional-found _ (sym c.before.before.before.before.before.before.before.before.before.before.before.before.before.before.before.before.flagged-variable.ensures ∙ c.before.before.before.before.before.before.before.before.before.before.before.before.before.before.a2.given.1)) (via config_answer _ _ _ _ _ (optional-found _ (sym c.before.before.before.before.before.before.before.before.before.before.before.before.flagged-variable2.ensures ∙ c.before.before.before.before.before.before.before.before.before.before.a3.given.1)) (via config_answer _ _ _ _ _ (field_found _ (sym c.before.before.before.before.before.before.before.before.codec-data.ensures ∙ c.before.before.before.before.before.before.a4.given.1)) (via config_answer _ _ _ _ _ (field_found _ (sym c.before.before.before.before.read-bits.ensures ∙ c.before.before.a5.given.1)) c.config-controls.ensures))))
 
 pub payload-config-spec : {M : Type 1} → statement M
 payload-config-spec =

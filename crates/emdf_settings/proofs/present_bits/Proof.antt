@@ -2,7 +2,7 @@ use borrow.Author.Rules.{rules}
 use mathlib.Core.Path.{refl, sym, ◌∙◌}
 use Rattle.emdf_format.proofs.Standing.{T_of}
 use Rattle.emdf_format.specs.Reader.{present, give}
-use Rattle.emdf_settings.specs.Settings.{optionalAnswer}
+use Rattle.emdf_settings.specs.Settings.{optional_answer}
 use Rattle.emdf_settings.specs.declared.OptionalAnswer.TheVariants.{Refused}
 use Rattle.emdf_fields.proofs.Answers.{not-not, field_found, via, this, that, by_field}
 use Rattle.emdf_settings.proofs.Answers.{optional-refuses}
@@ -10,8 +10,8 @@ use Rattle.emdf_settings.proofs.present_bits.Statement.{statement}
 use Rattle.emdf_settings.proofs.present_bits.Tie as tie
 
 returns : tie.Need-returns
-unfolding present optionalAnswer give
-returns c = that optionalAnswer _ _ _ _ _ _ (T_of c.if1.true) refl
+unfolding present optional_answer give
+returns c = that optional_answer _ _ _ _ _ _ (T_of c.if1.true) refl
 
 read-bits-requires : tie.Need-read-bits-requires
 read-bits-requires c κs = search rules
@@ -26,12 +26,12 @@ field-error-requires : tie.Need-field-error-requires
 field-error-requires c κs = search rules
 
 returns-2 : tie.Need-returns-2
-unfolding present optionalAnswer give
-returns-2 c = this optionalAnswer _ _ _ _ _ _ (not-not c.before.before.before.before.before.before.args.there c.before.before.before.before.if1.false) (by_field optionalAnswer Refused optional-refuses _ _ _ _ _ c.before.before.before.read-bits.ensures c.before.enum_told.given.1 c.field-error.ensures)
+unfolding present optional_answer give
+returns-2 c = this optional_answer _ _ _ _ _ _ (not-not c.before.before.before.before.before.before.args.there c.before.before.before.before.if1.false) (by_field optional_answer Refused optional-refuses _ _ _ _ _ c.before.before.before.read-bits.ensures c.before.enum_told.given.1 c.field-error.ensures)
 
 returns-3 : tie.Need-returns-3
-unfolding present optionalAnswer give
-returns-3 c = this optionalAnswer _ _ _ _ _ _ (not-not c.before.before.before.before.before.before.args.there c.before.before.before.before.if1.false) (via optionalAnswer _ _ _ _ _ (field_found _ (sym c.before.before.before.read-bits.ensures ∙ c.before.a.given.1)) refl)
+unfolding present optional_answer give
+returns-3 c = this optional_answer _ _ _ _ _ _ (not-not c.before.before.before.before.before.before.args.there c.before.before.before.before.if1.false) (via optional_answer _ _ _ _ _ (field_found _ (sym c.before.before.before.read-bits.ensures ∙ c.before.a.given.1)) refl)
 
 pub present-bits-spec : {M : Type 1} → statement M
 present-bits-spec =

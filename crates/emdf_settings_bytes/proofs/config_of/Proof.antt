@@ -1,5 +1,5 @@
 use borrow.Author.Rules.{rules}
-use Rattle.emdf_settings_bytes.specs.Settings.{configOf}
+use Rattle.emdf_settings_bytes.specs.Settings.{config_of}
 use Rattle.emdf_settings_bytes.proofs.config_of.Statement.{statement}
 use Rattle.emdf_settings_bytes.proofs.config_of.Tie as tie
 
@@ -34,7 +34,7 @@ optional-at-requires-8 : tie.Need-optional-at-requires-8
 optional-at-requires-8 c κs = search rules
 
 returns : tie.Need-returns
-unfolding configOf
+unfolding config_of
 returns c =
     rw (
       c.optional-at8.ensures,

@@ -3,13 +3,13 @@ use mathlib.Core.Path.{◌≡◌, refl, sym, ◌∙◌}
 use native.Mathlib.Omega.{arith}
 use Rattle.emdf_format.proofs.Standing.{fails, holds}
 use Rattle.emdf_measure.proofs.Asked.{stop, go}
-use Rattle.emdf_settings_bytes.specs.Settings.{pairsFormed}
+use Rattle.emdf_settings_bytes.specs.Settings.{pairs_formed}
 use Rattle.emdf_settings_bytes.proofs.Settings.{pairs-all, pairs_next, pairs-none}
 use Rattle.emdf_settings_bytes.proofs.pairs_formed.Statement.{statement}
 use Rattle.emdf_settings_bytes.proofs.pairs_formed.Tie as tie
 
 abbrev invariant-loop : tie.invariant-loop
-invariant-loop s first count i₀ i = (i ≤ count) × (pairsFormed s (first + 2 * i) (count - i) ≡ pairsFormed s first count)
+invariant-loop s first count i₀ i = (i ≤ count) × (pairs_formed s (first + 2 * i) (count - i) ≡ pairs_formed s first count)
 
 abbrev decreases-loop : tie.decreases-loop
 decreases-loop s first count i₀ i = count - i

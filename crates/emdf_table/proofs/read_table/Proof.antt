@@ -48,14 +48,14 @@ use denote.Triple.Walked.{says, needs, Stays, stay_none_slice, stay_none, walk_o
 use denote.Exit.{yes}
 use denote.Signature.{plain}
 use Rattle.emdf_format.specs.Reading.{reading}
-use Rattle.emdf_format.specs.Calls.{Records, in_table, tableAfter}
+use Rattle.emdf_format.specs.Calls.{Records, in_table, table_after}
 use Rattle.emdf_format.specs.declared.PayloadRow.{PayloadRow}
 use Rattle.emdf_format.specs.contracts.PayloadRow as row_type
 use Rattle.emdf_format.proofs.PayloadRow.TheLaws as row_laws
-use Rattle.emdf_records_plan.specs.Records.{recordsAnswer}
+use Rattle.emdf_records_plan.specs.Records.{records_answer}
 use Rattle.emdf_records_plan.specs.declared.RecordsAnswer.{RecordsAnswer}
-use Rattle.emdf_records_row.proofs.Row.{Row, rowTy, row_val, row-tells, row_made, row_typed}
-use Rattle.emdf_records.proofs.Row.{Answer, answerTy, answer_typed}
+use Rattle.emdf_records_row.proofs.Row.{Row, row_ty, row_val, row-tells, row_made, row_typed}
+use Rattle.emdf_records.proofs.Row.{Answer, answer_ty, answer_typed}
 use Rattle.emdf_table.specs.declared.ReadTable.{ReadTable}
 use Rattle.emdf_table.specs.contracts.ReadTable as Y
 use Rattle.emdf_table.proofs.ReadTable.TheLaws as Y'
@@ -133,7 +133,7 @@ module _ {M : Type 1} {𝓤 : Ura M} (𝓛 : Logic 𝓤) (mem' : Memory → SPro
   t = in_table (length lent_rows) (reading s.now)
 
   abbrev ys : List PayloadRow
-  ys = tableAfter t lent_rows
+  ys = table_after t lent_rows
 
   abbrev zs : List PayloadRow
   zs = ys ++ others
@@ -141,8 +141,8 @@ module _ {M : Type 1} {𝓤 : Ura M} (𝓛 : Logic 𝓤) (mem' : Memory → SPro
   t-is : t ≡ in_table rows (reading s.now)
   t-is = ap (λ (n : ℕ). in_table n (reading s.now)) (lent_length blank rows within)
 
-  zs-is : zs ≡ tableAfter (in_table rows (reading s.now)) (table blank)
-  zs-is = rest-stays lent_rows others (reading s.now) ∙ ap (tableAfter t) (take-append-drop rows (table blank)) ∙ ap (λ (u : Records). tableAfter u (table blank)) t-is
+  zs-is : zs ≡ table_after (in_table rows (reading s.now)) (table blank)
+  zs-is = rest-stays lent_rows others (reading s.now) ∙ ap (table_after t) (take-append-drop rows (table blank)) ∙ ap (λ (u : Records). table_after u (table blank)) t-is
 
   abbrev made : RecordsAnswer → ReadTable
   made r = record { answer = r; table = zs }
@@ -150,10 +150,10 @@ module _ {M : Type 1} {𝓤 : Ura M} (𝓛 : Logic 𝓤) (mem' : Memory → SPro
   made-is : (r : RecordsAnswer) (u : Val) (us : List Val) → Is Answer r (u ∷ []) → Is (Array Row N) zs (array_val us ∷ []) → Is Y.the_row (made r) (vstruct (vcons u (vcons (array_val us) vnil)) ∷ [])
   made-is r u us r-is us-is = ((u ∷ [], (array_val us ∷ [], tt)), (refl, (r-is, (is_same (row_type.the_field).row PayloadRow (row_type.the_field).into (row_type.the_field).into_one N zs (array_val us ∷ []) us-is, tt))))
 
-  exits : (r : RecordsAnswer) (v : Val) → r ≡ recordsAnswer t → Is Y.the_row (made r) (v ∷ []) → ent 𝓤 (⋆ 𝓛 (‵ (flft κ q) ∷ ‵ Own ∷ [])) (Post v)
+  exits : (r : RecordsAnswer) (v : Val) → r ≡ records_answer t → Is Y.the_row (made r) (v ∷ []) → ent 𝓤 (⋆ 𝓛 (‵ (flft κ q) ∷ ‵ Own ∷ [])) (Post v)
   exits r v e is =
       qed 𝓛 (‵ (flft κ q) ∷ ‵ Own ∷ []) ∵
-      suffices ! _ (ends_at 𝓛 this.ended stayed (this.clauses 𝓛 mem' run) (((κ, tt), (q, tt), tt, a, at-values), tt) v (made r) (tt, (tt, (tt, tt))) (tt, (tt, (tt, tt)))) $ says ! (e ∙ ap recordsAnswer t-is, zs-is) $
+      suffices ! _ (ends_at 𝓛 this.ended stayed (this.clauses 𝓛 mem' run) (((κ, tt), (q, tt), tt, a, at-values), tt) v (made r) (tt, (tt, (tt, tt))) (tt, (tt, (tt, tt)))) $ says ! (e ∙ ap records_answer t-is, zs-is) $
       nothing ! $ move ! (1 ∷ 0 ∷ []) $ join ! $ frame ! $
       nothing ! $ owned ! usize (Is usize) (uint_Makes 𝓛 w64) rows _ rows_is $ fjoin ! $ owned ! Row (Is Row) (row_made 𝓛) blank _ blank-is $ fjoin ! $ move ! (1 ∷ 0 ∷ []) $ fjoin ! $
       owned ! Y.the_row (Is Y.the_row) (LL.makes Y.the_type Y'.the_plain 𝓛) (made r) _ is $ move ! (1 ∷ 0 ∷ []) $ done !
@@ -177,7 +177,7 @@ module _ {M : Type 1} {𝓤 : Ura M} (𝓛 : Logic 𝓤) (mem' : Memory → SPro
 
   module _ (C : Calls 𝓤 H) (Λ : Loops 𝓤 H) (fm : FmC 𝓤 H 𝓛.laws C) (known : Triple 𝓤 (C #parse) (Parse 𝓛 mem' run)) where
     walk : ent 𝓤 (on_entry 𝓛 this.signature (κ, tt) (q, tt) a at-values) (WpFn 𝓤 H C Λ code.function (sv ∷ row_val blank ∷ vint w64 rows ∷ []) Post)
-    unfolding answerTy
+    unfolding answer_ty
     walk =
         qed 𝓛 ((‵ (flft κ q) ⊛ ‵ ftrue) ∷ ‵ (owns (ShrSlice (named 0) κ u8 ∷ Row ∷ usize ∷ []) a at-values) ∷ []) ∵ enter ! C Λ code.function (sv ∷ row_val blank ∷ vint w64 rows ∷ []) _ $
         alloc1 ! (λ l₀. alloc1 ! (λ l₁. alloc1 ! (λ l₂. alloc1 ! (λ l₃. alloc1 ! (λ l₄. alloc1 ! (λ l₅. alloc1 ! (λ l₆. alloc1 ! (λ l₇. alloc1 ! (λ l₈. alloc0 ! $ params1 ! $
@@ -201,8 +201,8 @@ module _ {M : Type 1} {𝓤 : Ura M} (𝓛 : Logic 𝓤) (mem' : Memory → SPro
         -- [what is asked; true; what s owns; what blank and rows own; the lender's part; the other rows; _8; …; _7; …; _6; …; _5; …; that _4 dies; _3; …; _2; …; _1; …; room for _0; …]
         calls_at ! fm (Parse 𝓛 mem' run) known (to l₄ ν γ) (and_then ! (load ! (from ! (stop !)) (look ! 19 refl)) (and_then ! (load ! (from ! (stop !)) (look ! 8 refl)) (no_more !))) (λ u.
         use1 𝓛 (later (some (λ (r : RecordsAnswer). ((‵ (flft κ q) ⊛ ‵ (flft (ν ∷ []) full_share) ⊛ ‵ ftrue) ⊛ ‵ (Answer.own_val r (u ∷ []))) ⊛ raw (ensured 𝓛 parse.ended (parse.clauses 𝓛 mem' run) (κ, (ν ∷ [], tt)) (s, (lent l₄ γ, tt)) tt r)))) (id⊢ 𝓤 _) $ await ! tt $ pick ! (λ r.
-        split ! $ move ! (1 ∷ []) $ use1 𝓛 (some (λ (ws : Lasts parse.ended (κ, (ν ∷ [], tt)) (s, (lent l₄ γ, tt))). ‵ (lasts parse.ended (κ, (ν ∷ [], tt)) (s, (lent l₄ γ, tt)) ws) ⊛ raw (fact 𝓤 ((r ≡ recordsAnswer t) × (ws.1.0 ≡ ys))))) (id⊢ 𝓤 _) $ pick ! (λ ws.
-        split ! $ move ! (1 ∷ []) $ heard ! ((r ≡ recordsAnswer t) × (ws.1.0 ≡ ys)) (λ is. fsplit ! $ move ! (1 ∷ []) $ fsplit ! $ fsplit ! $ rewrite ! 0 (λ (l : List PayloadRow). ‵ (finally Row γ l)) is.1 refl $
+        split ! $ move ! (1 ∷ []) $ use1 𝓛 (some (λ (ws : Lasts parse.ended (κ, (ν ∷ [], tt)) (s, (lent l₄ γ, tt))). ‵ (lasts parse.ended (κ, (ν ∷ [], tt)) (s, (lent l₄ γ, tt)) ws) ⊛ raw (fact 𝓤 ((r ≡ records_answer t) × (ws.1.0 ≡ ys))))) (id⊢ 𝓤 _) $ pick ! (λ ws.
+        split ! $ move ! (1 ∷ []) $ heard ! ((r ≡ records_answer t) × (ws.1.0 ≡ ys)) (λ is. fsplit ! $ move ! (1 ∷ []) $ fsplit ! $ fsplit ! $ rewrite ! 0 (λ (l : List PayloadRow). ‵ (finally Row γ l)) is.1 refl $
         -- [the last rows; their number; true; s's; the tokens and the answer; true; what s owns; what blank and rows own; the lender's part; the other rows; _8; …]
         move ! (4 ∷ []) $ split ! $ move ! (1 ∷ []) $ peeks ! Answer (Is Answer) (shows 𝓛 Answer) r (u ∷ []) (λ r-is. toss ! $
         land ! (from ! (stop !)) (init ! 16 refl (answer_typed 𝓛 r u r-is)) $
@@ -211,7 +211,7 @@ module _ {M : Type 1} {𝓤 : Ura M} (𝓛 : Logic 𝓤) (mem' : Memory → SPro
         use3 𝓛 (later (‵ ((Arr (mem Row) (length lent_rows)).own_at ys l₄ 0))) (slice_back 𝓛 Row (ν ∷ []) γ ys (length lent_rows) l₄ 0) $ await ! tt $ fsplit ! $ feq_l ! (λ as_many.
         rewrite ! 9 (λ (n : ℕ). ‵ (cells (mem Row) others l₄ (at 0 (mem Row).size n))) (sym as_many) refl $
         move ! (0 ∷ 9 ∷ []) $ use2 𝓛 (‵ (cells (mem Row) zs l₄ 0)) (join_app 𝓛 (mem Row) ys others l₄ 0) $ use1 𝓛 (‵ (row Row full_share zs l₄ 0)) (whole_out 𝓛 Row zs l₄ 0) $
-        use1 𝓛 (some (λ (us : List Val). given (Is (Array Row N) zs (array_val us ∷ [])) (‵ (fat full_share (ty_array rowTy N) l₄ 0 (array_val us))))) (array-of-row 𝓛 Row N l₄ 0 zs (whole_length blank rows within ys as_many)) $ pick ! (λ us. learn ! (λ us-is.
+        use1 𝓛 (some (λ (us : List Val). given (Is (Array Row N) zs (array_val us ∷ [])) (‵ (fat full_share (ty_array row_ty N) l₄ 0 (array_val us))))) (array-of-row 𝓛 Row N l₄ 0 zs (whole_length blank rows within ys as_many)) $ pick ! (λ us. learn ! (λ us-is.
         -- [_4; true; the token; the rows' number; true; s's; true; what s owns; what blank and rows own; _8; …; _7; …; _6; …; _5; …; that _4 dies; _3; …; _2; …; _1; …; room for _0; …]
         assigns ! (of_opd ! (load ! (from ! (stop !)) (look ! 0 refl))) (from ! (stop !)) (init ! 9 refl ((Array-Lawful 𝓛 Row (LL.lawful row_type.the_type row_laws.the_laws 𝓛) N).typed zs _ us-is).0) $
         assigns ! (agg ! (and_then ! (load ! (from ! (stop !)) (look ! 15 refl)) (and_then ! (load ! (from ! (stop !)) (look ! 9 refl)) (no_more !)))) (from ! (stop !)) (init ! 24 refl ((LL.lawful Y.the_type Y'.the_laws 𝓛).typed (made r) _ (made-is r u us r-is us-is)).0) $

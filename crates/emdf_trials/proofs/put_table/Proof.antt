@@ -5,12 +5,12 @@ use lib.ListN.{length, take, drop}
 use lib.Seq.{sets, length-sets}
 use native.Mathlib.Nat.{sub-zero}
 use Rattle.emdf_trials.proofs.Stored.{row-stored, rows-done}
-use Rattle.emdf_answers.specs.Carriers.{rowsBytes}
+use Rattle.emdf_answers.specs.Carriers.{rows_bytes}
 use Rattle.emdf_trials.proofs.put_table.Statement.{statement}
 use Rattle.emdf_trials.proofs.put_table.Tie as tie
 
 abbrev invariant-loop : tie.invariant-loop
-invariant-loop table₀ rows lent i₀ table i = (i ≤ rows) × (length table ≡ length table₀) × (sets table (i * 224) (rowsBytes (take (rows - i) (drop i lent))) ≡ sets table₀ 0 (rowsBytes (take rows lent)))
+invariant-loop table₀ rows lent i₀ table i = (i ≤ rows) × (length table ≡ length table₀) × (sets table (i * 224) (rows_bytes (take (rows - i) (drop i lent))) ≡ sets table₀ 0 (rows_bytes (take rows lent)))
 
 abbrev decreases-loop : tie.decreases-loop
 decreases-loop table₀ rows lent i₀ table i = rows - i

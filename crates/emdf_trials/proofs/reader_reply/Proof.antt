@@ -1,7 +1,7 @@
 use borrow.Author.Rules.{rules}
 use mathlib.Core.Path.{◌∙◌}
 use borrow.Author.Tests.{ne_eqb}
-use Rattle.emdf_trials.specs.Trials.{readerReply}
+use Rattle.emdf_trials.specs.Trials.{reader_reply}
 use Rattle.emdf_trials.proofs.Answers.{bits-told, bit-told, window-told, align-told}
 use Rattle.emdf_trials.proofs.reader_reply.Statement.{statement}
 use Rattle.emdf_trials.proofs.reader_reply.Tie as tie
@@ -46,27 +46,27 @@ align-step-reply-requires : tie.Need-align-step-reply-requires
 align-step-reply-requires c κs = search rules
 
 returns : tie.Need-returns
-unfolding readerReply
+unfolding reader_reply
 returns c = rw (c.before.before.match.keys1) (c.accepted-at.ensures ∙ rw c.before.new.ensures)
 
 returns-2 : tie.Need-returns-2
-unfolding readerReply
+unfolding reader_reply
 returns-2 c = rw (c.before.before.match.keys2) (c.accepted-at2.ensures ∙ rw c.before.bits-remaining.ensures)
 
 returns-3 : tie.Need-returns-3
-unfolding readerReply
+unfolding reader_reply
 returns-3 c = rw (c.before.before.match.keys3) (bits-told _ _ _ c.before.read-bits.ensures c.bits-step-reply.ensures)
 
 returns-4 : tie.Need-returns-4
-unfolding readerReply
+unfolding reader_reply
 returns-4 c = rw (c.before.before.match.keys4) (bit-told _ _ c.before.read-bit.ensures c.bit-step-reply.ensures)
 
 returns-5 : tie.Need-returns-5
-unfolding readerReply
+unfolding reader_reply
 returns-5 c = rw (c.before.before.match.keys5) (window-told _ _ _ c.before.take-bits.ensures c.window-step-reply.ensures)
 
 returns-6 : tie.Need-returns-6
-unfolding readerReply
+unfolding reader_reply
 returns-6 c =
     let k = c.before.before.match.rest in
     rw (ne_eqb _ 0 k.0.0.0.0.1, ne_eqb _ 1 k.0.0.0.1, ne_eqb _ 2 k.0.0.1, ne_eqb _ 3 k.0.1, ne_eqb _ 4 k.1) (align-told _ _ c.before.byte-align.ensures c.align-step-reply.ensures)

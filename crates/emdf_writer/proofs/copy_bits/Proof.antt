@@ -4,16 +4,16 @@ use mathlib.Core.Path.{◌≡◌, sym, ◌∙◌}
 use Prim.Native.Nat.{◌+◌}
 use lib.Dec.{leb}
 use borrow.Author.Tests.{not-true, not-false}
-use Rattle.openjoc_bitio.specs.Cursor.{bitLength}
+use Rattle.openjoc_bitio.specs.Cursor.{bit_length}
 use Rattle.emdf_writer.proofs.Fitting.{inside, run-away, run_out, run_in}
 use Rattle.emdf_writer.proofs.Plain.{as-bit-by-bit}
 use Rattle.emdf_writer.proofs.copy_bits.Statement.{statement}
 use Rattle.emdf_writer.proofs.copy_bits.Tie as tie
 
-there : (c : tie.Else1) → let a = c.before.before.before.before.args in leb (a.from + a.n) (bitLength a.s.now) ≡ true
+there : (c : tie.Else1) → let a = c.before.before.before.before.args in leb (a.from + a.n) (bit_length a.s.now) ≡ true
 there c = sym c.before.has-bits.ensures ∙ not-false _ c.if1.false
 
-room : (c : tie.Else2) → let a = c.before.before.before.before.before.before.before.args in leb (a.at + a.n) (bitLength a.out.now) ≡ true
+room : (c : tie.Else2) → let a = c.before.before.before.before.before.before.before.args in leb (a.at + a.n) (bit_length a.out.now) ≡ true
 room c = sym c.before.has-bits2.ensures ∙ not-false _ c.if2.false
 
 has-bits-requires : tie.Need-has-bits-requires

@@ -3,16 +3,16 @@ use Prim.Native.Nat.{ℕ, ◌+◌, ◌-◌, ◌*◌, ◌≤◌}
 use native.Mathlib.Omega.{arith}
 use lib.ListN.{length, get_or, length-set}
 use lib.Seq.{sets}
-use Rattle.openjoc_bitio.specs.Bits.{bitsValue}
-use Rattle.emdf_format.specs.Syntax.{octetBits}
+use Rattle.openjoc_bitio.specs.Bits.{bits_value}
+use Rattle.emdf_format.specs.Syntax.{octet_bits}
 use Rattle.emdf_format.proofs.Bytes.{byte-value}
-use Rattle.emdf_writer.specs.Writing.{bitRun}
+use Rattle.emdf_writer.specs.Writing.{bit_run}
 use Rattle.emdf_writer.proofs.Run.{octets-start, octets-more, run_none}
 use Rattle.emdf_writer.proofs.copy_bytes.Statement.{statement}
 use Rattle.emdf_writer.proofs.copy_bytes.Tie as tie
 
 abbrev invariant-loop : tie.invariant-loop
-invariant-loop out₀ i s j n k₀ out k = (k ≤ n) × (length out ≡ length out₀) × (sets (octetBits out) (i * 8 + k * 8) (bitRun s (j * 8 + k * 8) ((n - k) * 8)) ≡ sets (octetBits out₀) (i * 8) (bitRun s (j * 8) (n * 8)))
+invariant-loop out₀ i s j n k₀ out k = (k ≤ n) × (length out ≡ length out₀) × (sets (octet_bits out) (i * 8 + k * 8) (bit_run s (j * 8 + k * 8) ((n - k) * 8)) ≡ sets (octet_bits out₀) (i * 8) (bit_run s (j * 8) (n * 8)))
 
 abbrev decreases-loop : tie.decreases-loop
 decreases-loop out₀ i s j n k₀ out k = n - k
@@ -44,7 +44,7 @@ loop-again c =
     let o = c.before.before.loop in
     let s = a.s.now in
     let e : 8 * (a.j + o.moved) ≡ a.j * 8 + o.moved * 8 = omega arith in
-    let b : get_or s (a.j + o.moved) 0 ≡ bitsValue s (a.j * 8 + o.moved * 8) 8 = sym (byte-value s (a.j + o.moved) (c.shared-slice-known.given (a.j + o.moved)).fits) ∙ ap (λ (p : ℕ). bitsValue s p 8) e in
+    let b : get_or s (a.j + o.moved) 0 ≡ bits_value s (a.j * 8 + o.moved * 8) 8 = sym (byte-value s (a.j + o.moved) (c.shared-slice-known.given (a.j + o.moved)).fits) ∙ ap (λ (p : ℕ). bits_value s p 8) e in
     (omega arith, length-set o.out (a.i + o.moved) _ ∙ o.invariant.1, octets-more o.out s a.i (a.j * 8) a.n o.moved _ (omega arith) (omega arith) (omega arith) b ∙ o.invariant.2)
 
 same_length : tie.Need-same-length invariant-loop decreases-loop

@@ -2,13 +2,13 @@ use borrow.Author.Rules.{rules}
 use mathlib.Core.Path.{◌≡◌, sym, ◌∙◌}
 use Prim.Native.Nat.{◌-◌, ◌/◌, ◌^◌}
 use native.Mathlib.Omega.{arith}
-use Rattle.openjoc_bitio.specs.Bits.{bitsValue}
+use Rattle.openjoc_bitio.specs.Bits.{bits_value}
 use Rattle.openjoc_bitio.proofs.Bits.{value-range}
 use Rattle.emdf_writer.proofs.Run.{run_value, run_none, octet-part}
 use Rattle.emdf_writer.proofs.copy_part.Statement.{statement}
 use Rattle.emdf_writer.proofs.copy_part.Tie as tie
 
-value : (c : tie.After-octet-at) → let a = c.before.before.before.before.args in c.octet-at.result / 2 ^ (8 - a.t) ≡ bitsValue a.s.now a.from a.t
+value : (c : tie.After-octet-at) → let a = c.before.before.before.before.args in c.octet-at.result / 2 ^ (8 - a.t) ≡ bits_value a.s.now a.from a.t
 value c =
     let a = c.before.before.before.before.args in
     rw c.octet-at.ensures (octet-part a.s.now a.from a.t (omega arith))

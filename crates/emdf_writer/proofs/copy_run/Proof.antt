@@ -2,7 +2,7 @@ use borrow.Author.Rules.{rules}
 use mathlib.Core.Path.{◌∙◌}
 use Prim.Native.Nat.{◌+◌, ◌-◌, ◌/◌}
 use native.Mathlib.Omega.{arith}
-use Rattle.emdf_format.specs.Syntax.{octetBits}
+use Rattle.emdf_format.specs.Syntax.{octet_bits}
 use Rattle.emdf_writer.proofs.Run.{run-parts}
 use Rattle.emdf_writer.proofs.copy_run.Statement.{statement}
 use Rattle.emdf_writer.proofs.copy_run.Tie as tie
@@ -57,7 +57,7 @@ returns c =
     let a = o.before.before.before.args in
     let h = o.least.result in
     c.before.before.copy-part2.ensures
-    ∙ rw (w.copy-octets.ensures, u.copy-part.ensures) (run-parts (octetBits a.out.now) a.s.now a.at a.from a.n h ((a.n - h) / 8) ((a.at + h) / 8) (omega arith) (omega arith) (λ g. omega arith))
+    ∙ rw (w.copy-octets.ensures, u.copy-part.ensures) (run-parts (octet_bits a.out.now) a.s.now a.at a.from a.n h ((a.n - h) / 8) ((a.at + h) / 8) (omega arith) (omega arith) (λ g. omega arith))
 
 pub copy-run-spec : {M : Type 1} → statement M
 copy-run-spec =

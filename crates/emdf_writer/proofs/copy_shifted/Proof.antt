@@ -3,16 +3,16 @@ use Prim.Native.Nat.{ℕ, ◌+◌, ◌-◌, ◌*◌, ◌≤◌}
 use native.Mathlib.Omega.{arith}
 use lib.ListN.{length, length-set}
 use lib.Seq.{sets}
-use Rattle.openjoc_bitio.specs.Bits.{bitsValue}
-use Rattle.emdf_format.specs.Syntax.{octetBits}
-use Rattle.emdf_writer.specs.Writing.{bitRun}
+use Rattle.openjoc_bitio.specs.Bits.{bits_value}
+use Rattle.emdf_format.specs.Syntax.{octet_bits}
+use Rattle.emdf_writer.specs.Writing.{bit_run}
 use Rattle.openjoc_bitio.proofs.Bits.{octet-value}
 use Rattle.emdf_writer.proofs.Run.{octets-start, octets-more, run_none}
 use Rattle.emdf_writer.proofs.copy_shifted.Statement.{statement}
 use Rattle.emdf_writer.proofs.copy_shifted.Tie as tie
 
 abbrev invariant-loop : tie.invariant-loop
-invariant-loop out₀ i s j phase n k₀ out k = (k ≤ n) × (length out ≡ length out₀) × (sets (octetBits out) (i * 8 + k * 8) (bitRun s (j * 8 + phase + k * 8) ((n - k) * 8)) ≡ sets (octetBits out₀) (i * 8) (bitRun s (j * 8 + phase) (n * 8)))
+invariant-loop out₀ i s j phase n k₀ out k = (k ≤ n) × (length out ≡ length out₀) × (sets (octet_bits out) (i * 8 + k * 8) (bit_run s (j * 8 + phase + k * 8) ((n - k) * 8)) ≡ sets (octet_bits out₀) (i * 8) (bit_run s (j * 8 + phase) (n * 8)))
 
 abbrev decreases-loop : tie.decreases-loop
 decreases-loop out₀ i s j phase n k₀ out k = n - k
@@ -57,7 +57,7 @@ loop-again c =
     let g = c.before.shared-slice-known3.given in
     let s = a.s.now in
     let e : (a.j + o.k) * 8 + a.phase ≡ a.j * 8 + a.phase + o.k * 8 = omega arith in
-    let b : c.octet-in.result ≡ bitsValue s (a.j * 8 + a.phase + o.k * 8) 8 = c.octet-in.ensures ∙ octet-value s (a.j + o.k) a.phase (omega arith) (g (a.j + o.k)).fits (g (a.j + o.k + 1)).fits ∙ ap (λ (p : ℕ). bitsValue s p 8) e in
+    let b : c.octet-in.result ≡ bits_value s (a.j * 8 + a.phase + o.k * 8) 8 = c.octet-in.ensures ∙ octet-value s (a.j + o.k) a.phase (omega arith) (g (a.j + o.k)).fits (g (a.j + o.k + 1)).fits ∙ ap (λ (p : ℕ). bits_value s p 8) e in
     (omega arith, length-set o.out (a.i + o.k) _ ∙ o.invariant.1, octets-more o.out s a.i (a.j * 8 + a.phase) a.n o.k _ (omega arith) (omega arith) (omega arith) b ∙ o.invariant.2)
 
 same_length : tie.Need-same-length invariant-loop decreases-loop

@@ -3,7 +3,7 @@ use mathlib.Core.Path.{◌≡◌, ap, ◌∙◌}
 use Prim.Native.Nat.{ℕ, ◌+◌, ◌*◌, ◌-◌, ◌/◌, ◌%◌, ◌^◌}
 use native.Mathlib.Omega.{arith}
 use lib.ListN.{get_or}
-use Rattle.openjoc_bitio.specs.Bits.{bitsValue}
+use Rattle.openjoc_bitio.specs.Bits.{bits_value}
 use Rattle.openjoc_bitio.proofs.Bits.{octet-value}
 use Rattle.emdf_writer.proofs.octet_at.Statement.{statement}
 use Rattle.emdf_writer.proofs.octet_at.Tie as tie
@@ -28,7 +28,7 @@ returns c =
     let y = c.before.byte-at2.ensures in
     let o : c.octet-in.result ≡ (get_or s (a.p / 8) 0 * 256 + get_or s (a.p / 8 + 1) 0) / 2 ^ (8 - a.p % 8) % 256 = c.octet-in.ensures ∙ rw (x, y) in
     let e : a.p / 8 * 8 + a.p % 8 ≡ a.p = omega arith in
-    o ∙ octet-value s (a.p / 8) (a.p % 8) (omega arith) (omega (arith, x)) (omega (arith, y)) ∙ ap (λ (q : ℕ). bitsValue s q 8) e
+    o ∙ octet-value s (a.p / 8) (a.p % 8) (omega arith) (omega (arith, x)) (omega (arith, y)) ∙ ap (λ (q : ℕ). bits_value s q 8) e
 
 pub octet-at-spec : {M : Type 1} → statement M
 octet-at-spec =

@@ -5,14 +5,14 @@ use native.Mathlib.Omega.{arith}
 use lib.ListN.{length}
 use lib.Pow.{pow_pos}
 use lib.Seq.{sets}
-use Rattle.openjoc_bitio.specs.Bits.{numberBits}
-use Rattle.emdf_format.specs.Syntax.{octetBits}
+use Rattle.openjoc_bitio.specs.Bits.{number_bits}
+use Rattle.emdf_format.specs.Syntax.{octet_bits}
 use Rattle.emdf_writer.proofs.Stored.{number_more, number-none}
 use Rattle.emdf_writer.proofs.put_parts.Statement.{statement}
 use Rattle.emdf_writer.proofs.put_parts.Tie as tie
 
 abbrev invariant-loop : tie.invariant-loop
-invariant-loop out₀ at width v n₀ p₀ out n p = (n ≤ width) × (p + n ≡ at + width) × (length out ≡ length out₀) × (sets (octetBits out) p (numberBits n v) ≡ sets (octetBits out₀) at (numberBits width v))
+invariant-loop out₀ at width v n₀ p₀ out n p = (n ≤ width) × (p + n ≡ at + width) × (length out ≡ length out₀) × (sets (octet_bits out) p (number_bits n v) ≡ sets (octet_bits out₀) at (number_bits width v))
 
 abbrev decreases-loop : tie.decreases-loop
 decreases-loop out₀ at width v n₀ p₀ out n p = n
@@ -53,7 +53,7 @@ loop-again c =
     let o = d.before.before.before.before.before.loop in
     let t = d.before.before.before.least.result in
     let a = d.before.before.before.before.before.before.before.args in
-    (omega arith, omega arith, d.put-part.auto.0 ∙ o.invariant.2, rw (d.put-part.ensures, d.before.pow2.ensures) (number_more (octetBits o.out) o.p o.n t a.v (omega arith) ∙ o.invariant.3))
+    (omega arith, omega arith, d.put-part.auto.0 ∙ o.invariant.2, rw (d.put-part.ensures, d.before.pow2.ensures) (number_more (octet_bits o.out) o.p o.n t a.v (omega arith) ∙ o.invariant.3))
 
 same_length : tie.Need-same-length invariant-loop decreases-loop
 same_length c = c.before.loop.invariant.2

@@ -1,7 +1,7 @@
 use borrow.Author.Rules.{rules}
 use native.Mathlib.Omega.{arith}
 use Rattle.emdf_text.specs.Lines.{line}
-use Rattle.emdfcheck.specs.Output.{recordLine}
+use Rattle.emdfcheck.specs.Output.{record_line}
 use Rattle.emdf_text.proofs.Put.{both}
 use Rattle.emdfcheck.proofs.put_record.Statement.{statement}
 use Rattle.emdfcheck.proofs.put_record.Tie as tie
@@ -22,7 +22,7 @@ same_length : tie.Need-same-length
 same_length c = search rules
 
 returns : tie.Need-returns
-unfolding recordLine line
+unfolding record_line line
 returns c =
     let p = c.before.before.before.before.before.before.before.before.before.put-decimal.ensures.put (omega arith) in
     let q = c.before.before.put-line.ensures.put (omega (arith, p.1)) in

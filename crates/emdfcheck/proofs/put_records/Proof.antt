@@ -4,13 +4,13 @@ use mathlib.Core.Path.{◌≡◌, refl, sym, ◌∙◌}
 use mathlib.Core.List.{List}
 use native.Mathlib.Omega.{arith}
 use lib.ListN.{length}
-use Rattle.openjoc_bitio.specs.Cursor.{bitsRemaining}
+use Rattle.openjoc_bitio.specs.Cursor.{bits_remaining}
 use Rattle.emdf_format.specs.Reading.{Found, reading}
-use Rattle.emdf_format.specs.Calls.{recordsOf}
+use Rattle.emdf_format.specs.Calls.{records_of}
 use Rattle.emdf_payloads.proofs.Turns.{at-payload}
 use Rattle.emdf_payloads.specs.Payloads.{Listed}
-use Rattle.emdfcheck.specs.Output.{recordLines}
-use Rattle.emdfcheck.specs.Parts.{recordsIn}
+use Rattle.emdfcheck.specs.Output.{record_lines}
+use Rattle.emdfcheck.specs.Parts.{records_in}
 use Rattle.emdf_text.proofs.Put.{Leaves, leaves-less}
 use Rattle.emdfcheck.proofs.Records.{all_listed, all-records, more, done}
 use Rattle.emdfcheck.proofs.put_records.Statement.{statement}
@@ -22,10 +22,10 @@ invariant-loop bytes out₀ start at₀ end₀ out at end =
     × Listed bytes at xs
     × (length out ≡ length out₀)
     × (end + 126 * length xs ≤ length out)
-    × Leaves out₀ start (recordLines (recordsIn (reading bytes))) out end (recordLines (recordsOf xs))
+    × Leaves out₀ start (record_lines (records_in (reading bytes))) out end (record_lines (records_of xs))
 
 abbrev decreases-loop : tie.decreases-loop
-decreases-loop bytes out₀ start at₀ end₀ out at end = bitsRemaining bytes at
+decreases-loop bytes out₀ start at₀ end₀ out at end = bits_remaining bytes at
 
 loop-holds : tie.Need-loop-init invariant-loop decreases-loop
 loop-holds c =

@@ -4,7 +4,7 @@ use mathlib.Core.Path.{sym, ap, ◌∙◌}
 use mathlib.Core.List.{[], ◌∷◌}
 use native.Mathlib.Omega.{arith}
 use Rattle.emdf_text.specs.Lines.{ascii, line}
-use Rattle.emdfcheck.specs.Parts.{isNonEmdf}
+use Rattle.emdfcheck.specs.Parts.{is_non_emdf}
 use Rattle.emdf_text.proofs.Put.{put_as}
 use Rattle.emdfcheck.proofs.Class.{non-emdf, is-malformed}
 use Rattle.emdfcheck.proofs.put_refused.Statement.{statement}
@@ -31,7 +31,7 @@ same_length c = search rules
 returns : tie.Need-returns
 returns c =
     let s = c.before.before.before.before.before.before.before.before.before.before.before.args.bytes.now in
-    let e = sym c.before.before.before.before.before.before.if1.true ∙ c.before.before.before.before.before.before.before.is-non-emdf.ensures ∙ ap isNonEmdf c.before.before.before.before.before.before.before.before.classify-emdf-carrier.ensures in
+    let e = sym c.before.before.before.before.before.before.if1.true ∙ c.before.before.before.before.before.before.before.is-non-emdf.ensures ∙ ap is_non_emdf c.before.before.before.before.before.before.before.before.classify-emdf-carrier.ensures in
     put_as (c.before.before.put-line.ensures.put (omega arith)).0 (non-emdf s c.before.before.before.before.before.before.before.before.before.before.before.requires.0 e)
 
 slice-aggregate-put-line-3 : tie.Need-slice-aggregate-put-line-3
@@ -52,7 +52,7 @@ same-length-2 c = search rules
 returns-2 : tie.Need-returns-2
 returns-2 c =
     let s = c.before.before.before.before.before.before.before.before.before.before.before.before.args.bytes.now in
-    let e = sym c.before.before.before.before.before.before.before.if1.false ∙ c.before.before.before.before.before.before.before.before.is-non-emdf.ensures ∙ ap isNonEmdf c.before.before.before.before.before.before.before.before.before.classify-emdf-carrier.ensures in
+    let e = sym c.before.before.before.before.before.before.before.if1.false ∙ c.before.before.before.before.before.before.before.before.is-non-emdf.ensures ∙ ap is_non_emdf c.before.before.before.before.before.before.before.before.before.classify-emdf-carrier.ensures in
     put_as (c.before.before.put-line2.ensures.put (omega arith)).0 (ap (λ (n : ℕ). line (ascii "malformed") (n ∷ [])) c.before.before.before.before.error-number.ensures ∙ is-malformed s c.before.before.before.before.before.before.before.before.before.before.before.before.requires.0 e)
 
 pub put-refused-spec : {M : Type 1} → statement M

@@ -1,6 +1,6 @@
 use borrow.Author.Rules.{rules}
 use Rattle.emdf_format.specs.Profile.{table56, passes}
-use Rattle.joc_configs.specs.Settings.{passesAs}
+use Rattle.joc_configs.specs.Settings.{passes_as}
 use Rattle.emdf_format.proofs.Standing.{fails, holds}
 use Rattle.joc_configs.proofs.Profile.{all_go, all-stop, all-last}
 use Rattle.joc_configs.proofs.head_passes.Statement.{statement}
@@ -10,35 +10,35 @@ passes-requires : tie.Need-passes-requires
 passes-requires c κs = search rules
 
 returns : tie.Need-returns
-unfolding table56 passes passesAs
+unfolding table56 passes passes_as
 returns c = all-stop _ _ (fails c.if1.true c.before.passes.ensures)
 
 passes-requires-2 : tie.Need-passes-requires-2
 passes-requires-2 c κs = search rules
 
 returns-2 : tie.Need-returns-2
-unfolding table56 passes passesAs
+unfolding table56 passes passes_as
 returns-2 c = all_go _ _ (holds c.before.before.if1.false c.before.before.before.passes.ensures) (all-stop _ _ (fails c.if2.true c.before.passes2.ensures))
 
 passes-requires-3 : tie.Need-passes-requires-3
 passes-requires-3 c κs = search rules
 
 returns-3 : tie.Need-returns-3
-unfolding table56 passes passesAs
+unfolding table56 passes passes_as
 returns-3 c = all_go _ _ (holds c.before.before.before.before.if1.false c.before.before.before.before.before.passes.ensures) (all_go _ _ (holds c.before.before.if2.false c.before.before.before.passes2.ensures) (all-stop _ _ (fails c.if3.true c.before.passes3.ensures)))
 
 passes-requires-4 : tie.Need-passes-requires-4
 passes-requires-4 c κs = search rules
 
 returns-4 : tie.Need-returns-4
-unfolding table56 passes passesAs
+unfolding table56 passes passes_as
 returns-4 c = all_go _ _ (holds c.before.before.before.before.before.before.if1.false c.before.before.before.before.before.before.before.passes.ensures) (all_go _ _ (holds c.before.before.before.before.if2.false c.before.before.before.before.before.passes2.ensures) (all_go _ _ (holds c.before.before.if3.false c.before.before.before.passes3.ensures) (all-stop _ _ (fails c.if4.true c.before.passes4.ensures))))
 
 passes-requires-5 : tie.Need-passes-requires-5
 passes-requires-5 c κs = search rules
 
 returns-5 : tie.Need-returns-5
-unfolding table56 passes passesAs
+unfolding table56 passes passes_as
 returns-5 c = all_go _ _ (holds c.before.before.before.before.before.before.before.if1.false c.before.before.before.before.before.before.before.before.passes.ensures) (all_go _ _ (holds c.before.before.before.before.before.if2.false c.before.before.before.before.before.before.passes2.ensures) (all_go _ _ (holds c.before.before.before.if3.false c.before.before.before.before.passes3.ensures) (all_go _ _ (holds c.before.if4.false c.before.before.passes4.ensures) (all-last _ c.passes5.ensures))))
 
 pub head-passes-spec : {M : Type 1} → statement M

@@ -1,5 +1,5 @@
 use borrow.Author.Rules.{rules}
-use Rattle.emdf_format.specs.Profile.{meetsProfile}
+use Rattle.emdf_format.specs.Profile.{meets_profile}
 use Rattle.joc_configs.proofs.meets_profile.Statement.{statement}
 use Rattle.joc_configs.proofs.meets_profile.Tie as tie
 
@@ -13,7 +13,7 @@ meets-compat-requires : tie.Need-meets-compat-requires
 meets-compat-requires c κs = search rules
 
 returns : tie.Need-returns
-unfolding meetsProfile
+unfolding meets_profile
 returns c = rw (c.enum_told.given.1, c.before.before.requires)
 
 returns-2 : tie.Need-returns-2

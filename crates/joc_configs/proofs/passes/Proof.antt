@@ -1,6 +1,6 @@
 use borrow.Author.Rules.{rules}
 use Rattle.emdf_format.specs.Profile.{allows}
-use Rattle.joc_configs.specs.Settings.{passesAs}
+use Rattle.joc_configs.specs.Settings.{passes_as}
 use Rattle.joc_configs.proofs.passes.Statement.{statement}
 use Rattle.joc_configs.proofs.passes.Tie as tie
 
@@ -8,7 +8,7 @@ meets-wanted-requires : tie.Need-meets-wanted-requires
 meets-wanted-requires c κs = search rules
 
 returns : tie.Need-returns
-unfolding passesAs
+unfolding passes_as
 returns c = rw (← c.before.meets-wanted.ensures, c.if1.true)
 
 enum_told : tie.Need-enum-told
@@ -21,11 +21,11 @@ differs-requires : tie.Need-differs-requires
 differs-requires c κs = search rules
 
 returns-2 : tie.Need-returns-2
-unfolding passesAs allows
+unfolding passes_as allows
 returns-2 c = rw (← c.before.before.before.meets-wanted.ensures, c.before.before.if1.false, c.enum_told.given.1)
 
 returns-3 : tie.Need-returns-3
-unfolding passesAs allows
+unfolding passes_as allows
 returns-3 c = rw (← c.before.before.before.before.before.meets-wanted.ensures, c.before.before.before.before.if1.false, c.before.before.allowed.given.1, c.differs.ensures)
 
 pub passes-spec : {M : Type 1} → statement M

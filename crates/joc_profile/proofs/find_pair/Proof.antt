@@ -3,7 +3,7 @@ use Prim.Native.Nat.{◌≤◌}
 use mathlib.Core.Path.{sym, ◌∙◌}
 use mathlib.Core.List.{List}
 use native.Mathlib.Omega.{arith}
-use Rattle.openjoc_bitio.specs.Cursor.{bitsRemaining}
+use Rattle.openjoc_bitio.specs.Cursor.{bits_remaining}
 use Rattle.emdf_format.specs.Reading.{Found}
 use Rattle.emdf_payloads.proofs.Turns.{at-payload}
 use Rattle.emdf_payloads.specs.Payloads.{Listed}
@@ -21,7 +21,7 @@ invariant-loop s oamd₀ joc₀ place₀ at₀ oamd joc place at =
     × ((xs : List Found) → Listed s at₀ xs → Same s at oamd joc place xs)
 
 abbrev decreases-loop : tie.decreases-loop
-decreases-loop s oamd₀ joc₀ place₀ at₀ oamd joc place at = bitsRemaining s at
+decreases-loop s oamd₀ joc₀ place₀ at₀ oamd joc place at = bits_remaining s at
 
 loop-holds : tie.Need-loop-init invariant-loop decreases-loop
 loop-holds c = (omega arith, none_seen, none_seen, λ xs l. same_start _ _ xs l)

@@ -1,12 +1,12 @@
 use borrow.Author.Rules.{rules}
 use native.Mathlib.Omega.{arith}
 use borrow.Author.Tests.{eq-eqb, ne_eqb}
-use Rattle.joc_profile.specs.Pair.{seenMore, seenNext}
+use Rattle.joc_profile.specs.Pair.{seen_more, seen_next}
 use Rattle.joc_profile.proofs.seen_next.Statement.{statement}
 use Rattle.joc_profile.proofs.seen_next.Tie as tie
 
 returns : tie.Need-returns
-unfolding seenNext
+unfolding seen_next
 returns c = λ p next h e. rw (e, ne_eqb _ _ c.if1.true)
 
 enum_told : tie.Need-enum-told
@@ -27,15 +27,15 @@ add-t10 c =
     omega (arith, h)
 
 returns-2 : tie.Need-returns-2
-unfolding seenNext seenMore
+unfolding seen_next seen_more
 returns-2 c = λ p next h e. rw (e, eq-eqb _ _ c.before.before.before.if1.false, c.before.enum_told.given.1) (c.first-seen.ensures p next h)
 
 returns-3 : tie.Need-returns-3
-unfolding seenNext seenMore
+unfolding seen_next seen_more
 returns-3 c = λ p next h e. rw (e, eq-eqb _ _ c.before.before.if1.false, c.enum-told2.given.1)
 
 returns-4 : tie.Need-returns-4
-unfolding seenNext seenMore
+unfolding seen_next seen_more
 returns-4 c = λ p next h e. rw (e, eq-eqb _ _ c.before.before.before.if1.false, c.before.before2.given.1)
 
 pub seen-next-spec : {M : Type 1} → statement M

@@ -1,7 +1,7 @@
 -- The result of a read and the cursor after it: by what the cursor's call answers. Assumes nothing.
 use mathlib.Core.Path.{ap, ◌∙◌, sym}
 use borrow.Author.Rules.{rules}
-use Rattle.openjoc_bit_reader.specs.Reader.{bitsStepOf, bitsStep}
+use Rattle.openjoc_bit_reader.specs.Reader.{bits_step_of, bits_step}
 use Rattle.openjoc_bit_reader.proofs.bits_step.Statement.{statement}
 use Rattle.openjoc_bit_reader.proofs.bits_step.Tie as tie
 
@@ -15,12 +15,12 @@ enum-known-answer-2 : tie.Need-enum-known-answer-2
 enum-known-answer-2 c = search rules
 
 returns : tie.Need-returns
-unfolding bitsStep
-returns c = ap (bitsStepOf _) (sym c.before.answer.given.1 ∙ c.before.before.before.read-bits.ensures)
+unfolding bits_step
+returns c = ap (bits_step_of _) (sym c.before.answer.given.1 ∙ c.before.before.before.read-bits.ensures)
 
 returns-2 : tie.Need-returns-2
-unfolding bitsStep
-returns-2 c = ap (bitsStepOf _) (sym c.before.answer2.given.1 ∙ c.before.before.before.read-bits.ensures)
+unfolding bits_step
+returns-2 c = ap (bits_step_of _) (sym c.before.answer2.given.1 ∙ c.before.before.before.read-bits.ensures)
 
 pub bits-step-spec : {M : Type 1} → statement M
 bits-step-spec =

@@ -2,13 +2,13 @@ use Prim.Native.Nat.{ℕ, ◌≤◌, ◌<◌, ◌-◌, ◌*◌, ◌+◌, ◌^◌
 use mathlib.Core.Path.{◌≡◌, sym}
 use native.Mathlib.Omega.{arith}
 use lib.ListN.{length, get_or}
-use Rattle.openjoc_bitio.specs.Bits.{bitsValue}
+use Rattle.openjoc_bitio.specs.Bits.{bits_value}
 use Rattle.openjoc_bitio.proofs.Bits.{value_none, value-within, value-bytes}
 use Rattle.openjoc_bitio.proofs.few_octets.Statement.{statement}
 use Rattle.openjoc_bitio.proofs.few_octets.Tie as tie
 
 abbrev invariant-loop : tie.invariant-loop
-invariant-loop s i value₀ k₀ value k = (i ≤ k) × (k ≤ length s) × (value ≡ bitsValue s (i * 8) ((k - i) * 8))
+invariant-loop s i value₀ k₀ value k = (i ≤ k) × (k ≤ length s) × (value ≡ bits_value s (i * 8) ((k - i) * 8))
 
 abbrev decreases-loop : tie.decreases-loop
 decreases-loop s i value₀ k₀ value k = length s - k

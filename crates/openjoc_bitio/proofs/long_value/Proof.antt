@@ -1,13 +1,13 @@
 use Prim.Native.Nat.{◌≤◌, ◌-◌, ◌+◌}
 use mathlib.Core.Path.{◌≡◌, refl, sym}
 use native.Mathlib.Omega.{arith}
-use Rattle.openjoc_bitio.specs.Bits.{bitsValue}
+use Rattle.openjoc_bitio.specs.Bits.{bits_value}
 use Rattle.openjoc_bitio.proofs.Bits.{value_none, value-turn}
 use Rattle.openjoc_bitio.proofs.long_value.Statement.{statement}
 use Rattle.openjoc_bitio.proofs.long_value.Tie as tie
 
 abbrev invariant-loop : tie.invariant-loop
-invariant-loop s p w value₀ done₀ value done = (done ≤ w) × (value ≡ bitsValue s p done)
+invariant-loop s p w value₀ done₀ value done = (done ≤ w) × (value ≡ bits_value s p done)
 
 abbrev decreases-loop : tie.decreases-loop
 decreases-loop s p w value₀ done₀ value done = w - done
@@ -33,7 +33,7 @@ pow2-requires c κs = omega arith
 mul-value : tie.Need-overflow-mul-value invariant-loop decreases-loop
 mul-value c =
     let a = c.before.before.before.before.before.args in let done = c.before.before.before.loop.done in
-    omega (arith, value-turn a.s.now a.p done c.before.least.result c.before.before.before.loop.value c.pow2.result (bitsValue a.s.now (a.p + done) c.before.least.result) (omega arith) c.before.before.before.loop.invariant.1 c.pow2.ensures refl)
+    omega (arith, value-turn a.s.now a.p done c.before.least.result c.before.before.before.loop.value c.pow2.result (bits_value a.s.now (a.p + done) c.before.least.result) (omega arith) c.before.before.before.loop.invariant.1 c.pow2.ensures refl)
 
 octet-bits-requires : tie.Need-octet-bits-requires invariant-loop decreases-loop
 octet-bits-requires c κs = omega arith

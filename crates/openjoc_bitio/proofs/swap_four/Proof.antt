@@ -1,6 +1,6 @@
 use borrow.Author.Rules.{rules}
 use native.Mathlib.Omega.{arith}
-use Rattle.openjoc_bitio.specs.Bits.{swapFour}
+use Rattle.openjoc_bitio.specs.Bits.{swap_four}
 use Rattle.openjoc_bitio.proofs.swap_four.Statement.{statement}
 use Rattle.openjoc_bitio.proofs.swap_four.Tie as tie
 
@@ -23,7 +23,7 @@ add-result-3 : tie.Need-overflow-add-result-3
 add-result-3 c = search rules
 
 returns : tie.Need-returns
-unfolding swapFour
+unfolding swap_four
 returns c = omega arith
 
 pub swap-four-spec : {M : Type 1} → statement M

@@ -2,7 +2,7 @@ use borrow.Author.Rules.{rules}
 use lib.ListN.{length}
 use Rattle.openjoc_emdf.specs.declared.ParseAnswer.{ParseAnswer}
 use mathlib.Core.Path.{ap, ◌∙◌}
-use Rattle.openjoc_emdf.specs.Answers.{classifiedOf}
+use Rattle.openjoc_emdf.specs.Answers.{classified_of}
 use Rattle.openjoc_emdf.proofs.Header.{word-is, one_byte, other, classed}
 use Rattle.openjoc_emdf.proofs.classify_emdf_carrier.Statement.{statement}
 use Rattle.openjoc_emdf.proofs.classify_emdf_carrier.Tie as tie
@@ -29,7 +29,7 @@ classified-requires : tie.Need-classified-requires
 classified-requires c κs = search rules
 
 returns-3 : tie.Need-returns-3
-returns-3 c = classed _ c.before.before.before.before.before.before.if1.false (word-is c.before.before.before.before.before.before.before.before.args.bytes.now 0 (c.before.before.before.before.before.before.before.shared-slice-known.given 0).fits (c.before.before.before.before.before.before.before.shared-slice-known.given 1).fits c.before.before.before.big_endian.ensures) c.before.before.if2.false (c.classified.ensures ∙ ap (λ (x : ParseAnswer). classifiedOf x (length c.before.before.before.before.before.before.before.before.args.bytes.now)) c.before.parse-emdf-sync.ensures)
+returns-3 c = classed _ c.before.before.before.before.before.before.if1.false (word-is c.before.before.before.before.before.before.before.before.args.bytes.now 0 (c.before.before.before.before.before.before.before.shared-slice-known.given 0).fits (c.before.before.before.before.before.before.before.shared-slice-known.given 1).fits c.before.before.before.big_endian.ensures) c.before.before.if2.false (c.classified.ensures ∙ ap (λ (x : ParseAnswer). classified_of x (length c.before.before.before.before.before.before.before.before.args.bytes.now)) c.before.parse-emdf-sync.ensures)
 
 pub classify-emdf-carrier-spec : {M : Type 1} → statement M
 classify-emdf-carrier-spec =

@@ -4,7 +4,7 @@ use Rattle.emdf_container.specs.declared.ContainerAnswer.{ContainerAnswer}
 use mathlib.Core.Path.{sym, ap, ◌∙◌}
 use lib.Seq.{length-take-le}
 use native.Mathlib.Omega.{arith}
-use Rattle.openjoc_emdf.specs.Answers.{parsedOf}
+use Rattle.openjoc_emdf.specs.Answers.{parsed_of}
 use Rattle.openjoc_emdf.proofs.Header.{word-is, too_short, no-sync, cut, whole}
 use Rattle.openjoc_emdf.proofs.parse_emdf_sync.Statement.{statement}
 use Rattle.openjoc_emdf.proofs.parse_emdf_sync.Tie as tie
@@ -55,7 +55,7 @@ parsed-requires : tie.Need-parsed-requires
 parsed-requires c κs = search rules
 
 returns-4 : tie.Need-returns-4
-returns-4 c = whole _ c.before.before.before.before.before.before.before.before.before.before.before.if1.false (word-is c.before.before.before.before.before.before.before.before.before.before.before.before.before.args.bytes.now 0 (c.before.before.before.before.before.before.before.before.before.before.before.before.shared-slice-known.given 0).fits (c.before.before.before.before.before.before.before.before.before.before.before.before.shared-slice-known.given 1).fits c.before.before.before.before.before.before.before.before.big_endian.ensures) c.before.before.before.before.before.before.before.if2.false (word-is c.before.before.before.before.before.before.before.before.before.before.before.before.before.args.bytes.now 2 (c.before.before.before.before.before.before.before.before.before.before.before.before.shared-slice-known.given 2).fits (c.before.before.before.before.before.before.before.before.before.before.before.before.shared-slice-known.given 3).fits c.before.before.before.before.big-endian2.ensures) c.before.before.before.if3.false (c.parsed.ensures ∙ ap (λ (x : ContainerAnswer). parsedOf x (4 + c.before.before.before.before.big-endian2.result)) c.before.parse-container.ensures)
+returns-4 c = whole _ c.before.before.before.before.before.before.before.before.before.before.before.if1.false (word-is c.before.before.before.before.before.before.before.before.before.before.before.before.before.args.bytes.now 0 (c.before.before.before.before.before.before.before.before.before.before.before.before.shared-slice-known.given 0).fits (c.before.before.before.before.before.before.before.before.before.before.before.before.shared-slice-known.given 1).fits c.before.before.before.before.before.before.before.before.big_endian.ensures) c.before.before.before.before.before.before.before.if2.false (word-is c.before.before.before.before.before.before.before.before.before.before.before.before.before.args.bytes.now 2 (c.before.before.before.before.before.before.before.before.before.before.before.before.shared-slice-known.given 2).fits (c.before.before.before.before.before.before.before.before.before.before.before.before.shared-slice-known.given 3).fits c.before.before.before.before.big-endian2.ensures) c.before.before.before.if3.false (c.parsed.ensures ∙ ap (λ (x : ContainerAnswer). parsed_of x (4 + c.before.before.before.before.big-endian2.result)) c.before.parse-container.ensures)
 
 pub parse-emdf-sync-spec : {M : Type 1} → statement M
 parse-emdf-sync-spec =

@@ -35,7 +35,7 @@ use denote.Triple.Call.{calls_at}
 use denote.Triple.Entry.{on_entry}
 use denote.Triple.Spec.{triple_of}
 use denote.Triple.Walked.{says, Stays, stay_none_slice, stay_none, walk_of, Goes-none_slice, Goes-none, ends_at, walked}
-use Rattle.openjoc_bitio.specs.Cursor.{bitsRemaining}
+use Rattle.openjoc_bitio.specs.Cursor.{bits_remaining}
 use Rattle.openjoc_bitio.specs.declared.BitCursor.{BitCursor}
 use Rattle.openjoc_bit_reader.specs.declared.BitReader.{BitReader}
 use Rattle.openjoc_bit_reader.proofs.Held.{row, Own, CellAt, Lent, lfts, shares, lent, pointer}
@@ -85,7 +85,7 @@ module _ {M : Type 1} {𝓤 : Ura M} (𝓛 : Logic 𝓤) (mem' : Memory → SPro
     abbrev at_entry : (walk_of 𝓛 this.ended stayed (this.clauses 𝓛 mem' run)).Ghost
     at_entry = (((κ, tt), (q, tt), tt, (x, (c, tt)), (v ∷ [], (Q'.lowered c ∷ [], tt))), tt)
 
-    exits : (r : ℕ) (u : Val) → r ≡ bitsRemaining x.now c → Is usize r (u ∷ []) → ent 𝓤 (⋆ 𝓛 (‵ (flft κ q) ∷ ‵ Bytes ∷ [])) ((walk_of 𝓛 this.ended stayed (this.clauses 𝓛 mem' run)).post at_entry u)
+    exits : (r : ℕ) (u : Val) → r ≡ bits_remaining x.now c → Is usize r (u ∷ []) → ent 𝓤 (⋆ 𝓛 (‵ (flft κ q) ∷ ‵ Bytes ∷ [])) ((walk_of 𝓛 this.ended stayed (this.clauses 𝓛 mem' run)).post at_entry u)
     exits r u e is =
         qed 𝓛 (‵ (flft κ q) ∷ ‵ Bytes ∷ []) ∵ suffices ! _ (ends_at 𝓛 this.ended stayed (this.clauses 𝓛 mem' run) at_entry u r (tt, (tt, tt)) (tt, (tt, tt))) $ says ! e $
         nothing ! $ move ! (1 ∷ 0 ∷ []) $ join ! $ frame ! $ nothing ! $ owned ! Q.the_row (Is Q.the_row) (LL.makes Q.the_type Q'.the_plain 𝓛) c _ c-is $ fjoin ! $ move ! (1 ∷ 0 ∷ []) $ fjoin ! $
@@ -124,7 +124,7 @@ module _ {M : Type 1} {𝓤 : Ura M} (𝓛 : Logic 𝓤) (mem' : Memory → SPro
         use3 𝓛 (later (some (λ (ν : ℕ). some (λ (γ : GName). raw (Callee.pre (passed l₃ ν γ)) ⊛ raw (KeptShr 𝓛 R κ q l₃ h ν))))) (asks l₃) $ await ! tt $ pick ! (λ ν. pick ! (λ γ. split ! $
         -- [what is asked; what is kept; true; what bytes owns; what cursor owns; _4; …; that _3 dies; _2; …; _1; …; room for _0; …]
         calls_at ! fm Callee known (passed l₃ ν γ) (and_then ! (load ! (from ! (stop !)) (look ! 5 refl)) (no_more !)) (λ u.
-        hears ! tt callee.ended (callee.clauses 𝓛 mem' run) (passed l₃ ν γ) u (λ r. r ≡ bitsRemaining x.now c) (λ r e. id⊢ 𝓤 _) (λ r e is.
+        hears ! tt callee.ended (callee.clauses 𝓛 mem' run) (passed l₃ ν γ) u (λ r. r ≡ bits_remaining x.now c) (λ r e. id⊢ 𝓤 _) (λ r e is.
         land ! (from ! (stop !)) (init ! 12 refl ((uint_Lawful 𝓛 w64).typed r _ is).0) $
         use1 𝓛 (‵ (flft (ν ∷ κ) (PosShare.left q)) ⊛ ‵ (flft κ (PosShare.right q)) ⊛ ‵ ftrue) (id⊢ 𝓤 _) $
         use2 𝓛 (later (‵ ((mem R).own_at h l₃ 0) ⊛ ‵ (flft κ q))) (ends-shared 𝓛 R κ q l₃ ν h) $ await ! tt $ split ! $ use1 𝓛 (‵ (CellAt l₃ 0 h) ⊛ ‵ (Own κ h)) (lies_out 𝓛 κ q l₃ h) $ split ! $

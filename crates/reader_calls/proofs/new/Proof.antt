@@ -32,7 +32,7 @@ use denote.Triple.Entry.{on_entry}
 use denote.Triple.Spec.{triple_of}
 use denote.Triple.Walked.{says, Stays, stay_none_slice, walk_of, Goes-none_slice, ends_at, walked}
 use denote.Exit.{yes}
-use Rattle.openjoc_bitio.specs.Cursor.{wholeSlice}
+use Rattle.openjoc_bitio.specs.Cursor.{whole_slice}
 use Rattle.openjoc_bitio.specs.declared.BitCursor.{BitCursor}
 use Rattle.openjoc_bit_reader.specs.Reader.{opened}
 use Rattle.openjoc_bit_reader.specs.declared.BitReader.{BitReader}
@@ -81,7 +81,7 @@ module _ {M : Type 1} {𝓤 : Ura M} (𝓛 : Logic 𝓤) (mem : Memory → SProp
         qed 𝓛 ((‵ (flft κ q) ⊛ ‵ ftrue) ∷ ‵ (owns (ShrSlice (named 0) κ u8 ∷ []) (s, tt) (v ∷ [], tt)) ∷ []) ∵ move ! (1 ∷ []) $ fsplit ! $
         use1 𝓛 (‵ Own ⊛ ‵ Own) ((shr_slice_copy 𝓛 (named 0) κ u8).twice s (v ∷ [])) $ split ! $ move ! (0 ∷ 2 ∷ []) $ fjoin ! $ move ! (2 ∷ 0 ∷ []) $ use2 𝓛 (raw (Called.pre at)) (asks 𝓤 _) $ frame ! $ done !
 
-    exits : (c : BitCursor) → c ≡ wholeSlice s.now → Is Q.the_row c (Q'.lowered c ∷ []) → ent 𝓤 (⋆ 𝓛 ((‵ (flft κ q) ⊛ ‵ ftrue) ∷ ‵ Own ∷ [])) ((walk_of 𝓛 this.ended stayed (this.clauses 𝓛 mem run)).post at (Q'.lowered c))
+    exits : (c : BitCursor) → c ≡ whole_slice s.now → Is Q.the_row c (Q'.lowered c ∷ []) → ent 𝓤 (⋆ 𝓛 ((‵ (flft κ q) ⊛ ‵ ftrue) ∷ ‵ Own ∷ [])) ((walk_of 𝓛 this.ended stayed (this.clauses 𝓛 mem run)).post at (Q'.lowered c))
     exits c e is =
         qed 𝓛 ((‵ (flft κ q) ⊛ ‵ ftrue) ∷ ‵ Own ∷ []) ∵ suffices ! _ (ends_at 𝓛 this.ended stayed (this.clauses 𝓛 mem run) at (Q'.lowered c) c (tt, tt) (tt, tt)) $ says ! e $
         frame ! $ nothing ! $ move ! (1 ∷ 0 ∷ []) $ fjoin ! $ frame ! $ owned ! Q.the_row (Is Q.the_row) (LL.makes Q.the_type Q'.the_plain 𝓛) c _ is $ done !

@@ -1,6 +1,6 @@
 -- `read_bit` meets its contract: it calls `BitReader::read_bit` on a reader that it makes. Assumes nothing.
 use base.Logic.{id⊢}
-use Rattle.openjoc_bit_reader.specs.Reader.{bitStep}
+use Rattle.openjoc_bit_reader.specs.Reader.{bit_step}
 use Rattle.openjoc_bit_reader.specs.declared.BitStep.{BitStep}
 use Rattle.openjoc_bit_reader.specs.contracts.BitResult as S
 use Rattle.openjoc_bit_reader.proofs.BitResult.TheLaws as S'
@@ -17,6 +17,6 @@ use Rattle.reader_calls.proofs.read_bit.Code as code
 pub read-bit-spec : {M : Type 1} → stated.statement M
 unfolding code.routine
 read-bit-spec 𝓤 𝓛 𝓜 𝓡 =
-    calls S.the_type S'.the_field_laws S'.the_field_plain (P.the_type).name BitStep (λ r. r.result) (λ r. r.cursor) (P.the_type).to_one bitStep #callee 𝓤
+    calls S.the_type S'.the_field_laws S'.the_field_plain (P.the_type).name BitStep (λ r. r.result) (λ r. r.cursor) (P.the_type).to_one bit_step #callee 𝓤
     (callee.clauses 𝓛 𝓜.mem 𝓡.run) (λ v. tt) (λ v. id⊢ 𝓤 _) (λ v r ws. id⊢ 𝓤 _) 𝓛 𝓜 𝓡
     code.env #this (code.unfolded 𝓤 𝓛.H 𝓜 𝓡) callee-def.routine code.calls-openjoc-bit-reader::BitReader::read-bit (callee-thm.met 𝓤 𝓛 𝓜 𝓡)

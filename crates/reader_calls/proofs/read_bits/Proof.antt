@@ -33,7 +33,7 @@ use denote.Triple.Statement.{Contract, Triple}
 use denote.Triple.Call.{calls_at}
 use denote.Triple.Entry.{on_entry}
 use denote.Triple.Walked.{says, Stays, stay_none_slice, stay_none, walk_of, Goes-none_slice, Goes-none, ends_at, walked}
-use Rattle.openjoc_bit_reader.specs.Reader.{bitsStep, readerAt}
+use Rattle.openjoc_bit_reader.specs.Reader.{bits_step, reader_at}
 use Rattle.openjoc_bitio.specs.declared.BitCursor.{BitCursor}
 use Rattle.openjoc_bit_reader.specs.declared.BitReader.{BitReader}
 use Rattle.openjoc_bit_reader.specs.declared.BitsResult.{BitsResult}
@@ -89,10 +89,10 @@ module _ {M : Type 1} {𝓤 : Ura M} (𝓛 : Logic 𝓤) (mem : Memory → SProp
     h = made κ x c
 
     abbrev d : BitsStep
-    d = bitsStep x.now c n
+    d = bits_step x.now c n
 
     abbrev h' : BitReader
-    h' = readerAt h d.cursor
+    h' = reader_at h d.cursor
 
     -- a local has the lifetime `erased`
     abbrev αᵉ : NamedLft

@@ -34,7 +34,7 @@ use denote.Triple.Statement.{Contract, Triple}
 use denote.Triple.Call.{calls_at}
 use denote.Triple.Entry.{on_entry}
 use denote.Triple.Walked.{says, Stays, stay_none_slice, stay_none, walk_of, Goes-none_slice, Goes-none, ends_at, walked}
-use Rattle.openjoc_bit_reader.specs.Reader.{windowStep, window, readerAt}
+use Rattle.openjoc_bit_reader.specs.Reader.{window_step, window, reader_at}
 use Rattle.openjoc_bitio.specs.declared.BitCursor.{BitCursor}
 use Rattle.openjoc_bit_reader.specs.declared.BitReader.{BitReader}
 use Rattle.openjoc_bit_reader.specs.declared.BitWindow.{BitWindow}
@@ -80,9 +80,9 @@ module _ (κ : Lft) (w : BitWindow) (u : Val) (is : Is (X.the_row (α κ)) w (u 
   window-is : Is Q.the_row w.reader.cursor (Q'.lowered w.reader.cursor ∷ [])
   window-is = (LL.owed (T.the_type (α κ)) (T'.the_laws (α κ)) w.reader _ (LL.owed (X.the_type (α κ)) (X'.the_laws (α κ)) w _ is).0).1.0
 
-step_is : (κ : Lft) (x : Bor (List ℕ)) (c : BitCursor) (n : ℕ) (w : BitWindow) (u : Val) → let d = windowStep x.now c n in w ≡ window (made κ x c) n → Is (X.the_row (α κ)) w (u ∷ []) → Is Q.the_row d.cursor (Q'.lowered d.cursor ∷ []) → Is P.the_row d (val w d.cursor ∷ [])
+step_is : (κ : Lft) (x : Bor (List ℕ)) (c : BitCursor) (n : ℕ) (w : BitWindow) (u : Val) → let d = window_step x.now c n in w ≡ window (made κ x c) n → Is (X.the_row (α κ)) w (u ∷ []) → Is Q.the_row d.cursor (Q'.lowered d.cursor ∷ []) → Is P.the_row d (val w d.cursor ∷ [])
 step_is κ x c n w u e is after_is =
-    let d = windowStep x.now c n in
+    let d = window_step x.now c n in
     let there = subst (λ (y : BitWindow). Is (X.the_row (α κ)) y (u ∷ [])) e is in
     subst (λ (y : BitWindow). Is P.the_row d (val y d.cursor ∷ [])) (sym e) (LL.owes P.the_type P'.the_laws d (result-is κ (window (made κ x c) n) u there, (window-is κ (window (made κ x c) n) u there, (after_is, tt))))
 
@@ -105,10 +105,10 @@ module _ {M : Type 1} {𝓤 : Ura M} (𝓛 : Logic 𝓤) (mem : Memory → SProp
     h = made κ x c
 
     abbrev d : WindowStep
-    d = windowStep x.now c n
+    d = window_step x.now c n
 
     abbrev h' : BitReader
-    h' = readerAt h d.cursor
+    h' = reader_at h d.cursor
 
     -- a local has the lifetime `erased`
     abbrev αᵉ : NamedLft

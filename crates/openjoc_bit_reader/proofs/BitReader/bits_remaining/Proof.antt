@@ -33,7 +33,7 @@ use denote.Triple.Entry.{on_entry}
 use denote.Triple.Spec.{triple_of}
 use denote.Triple.Walked.{says, Stays, stay_none_ref, walk_of, Goes-none_ref, ends_at, walked}
 use denote.Exit.{yes}
-use Rattle.openjoc_bit_reader.specs.Reader.{readerRemaining}
+use Rattle.openjoc_bit_reader.specs.Reader.{reader_remaining}
 use Rattle.openjoc_bit_reader.proofs.Held.{α, row, mach, bytes_of, Own, Parts, copied, Lent, lfts, shares, lent, pointer, passed, behind, Tokens, Token}
 use Rattle.openjoc_bit_reader.proofs.Walk.{asks, hears, by-walk}
 use Rattle.openjoc_bitio.proofs.BitCursor.TheLaws as Q'
@@ -75,7 +75,7 @@ module _ {M : Type 1} {𝓤 : Ura M} (𝓛 : Logic 𝓤) (mem : Memory → SProp
         -- [what bytes and cursor own; what the reader owns; the token]: the callee takes the cursor first
         fsplit ! $ move ! (1 ∷ []) $ fsplit ! $ move ! (2 ∷ 1 ∷ []) $ fjoin ! $ move ! (1 ∷ 0 ∷ []) $ fjoin ! $ move ! (2 ∷ 0 ∷ []) $ use2 𝓛 (raw (Called.pre to)) (asks 𝓤 _) $ frame ! $ done !
 
-    exits : (r : ℕ) (u : Val) → r ≡ readerRemaining v.h → Is usize r (u ∷ []) → ent 𝓤 (⋆ 𝓛 (‵ (flft v.κ v.q) ∷ Token 𝓤 v ∷ ‵ (fres v.γ (R.coded.code v.h)) ∷ ‵ (fshr_bor v.κ (λ s. part_at R s v.h v.b v.o)) ∷ [])) ((walk_of 𝓛 this.ended stayed (this.clauses 𝓛 mem run)).post at u)
+    exits : (r : ℕ) (u : Val) → r ≡ reader_remaining v.h → Is usize r (u ∷ []) → ent 𝓤 (⋆ 𝓛 (‵ (flft v.κ v.q) ∷ Token 𝓤 v ∷ ‵ (fres v.γ (R.coded.code v.h)) ∷ ‵ (fshr_bor v.κ (λ s. part_at R s v.h v.b v.o)) ∷ [])) ((walk_of 𝓛 this.ended stayed (this.clauses 𝓛 mem run)).post at u)
     exits r u e is =
         qed 𝓛 (‵ (flft v.κ v.q) ∷ Token 𝓤 v ∷ ‵ (fres v.γ (R.coded.code v.h)) ∷ ‵ (fshr_bor v.κ (λ s. part_at R s v.h v.b v.o)) ∷ []) ∵
         suffices ! _ (ends_at 𝓛 this.ended stayed (this.clauses 𝓛 mem run) at u r (tt, tt) (tt, tt)) $ says ! e $
@@ -98,7 +98,7 @@ module _ {M : Type 1} {𝓤 : Ura M} (𝓛 : Logic 𝓤) (mem : Memory → SProp
         assigns ! (of_opd ! (load ! (from ! (hop ! (look ! 10 refl) (fld ! refl (stop !)))) (look_in ! 0 (sub ! 0 refl (whole !))))) (from ! (stop !)) (init ! 6 refl (tt, wt.1.0)) $
         move ! (1 ∷ 4 ∷ []) $ use2 𝓛 (raw (Called.pre to) ⊛ ‵ (Own v.κ' v.h)) apart $ split ! $
         calls_at ! fm Called known to (and_then ! (load ! (from ! (stop !)) (look ! 8 refl)) (and_then ! (load ! (from ! (stop !)) (look ! 6 refl)) (no_more !))) (λ u.
-        hears ! tt step.ended (step.clauses 𝓛 mem run) to u (λ r. r ≡ readerRemaining v.h) (λ r e. id⊢ 𝓤 _) (λ r e is.
+        hears ! tt step.ended (step.clauses 𝓛 mem run) to u (λ r. r ≡ reader_remaining v.h) (λ r e. id⊢ 𝓤 _) (λ r e is.
         land ! (from ! (stop !)) (init ! 12 refl ((uint_Lawful 𝓛 w64).typed r _ is).0) $
         -- [the token of 'a; what the reader owns; a share of its cell; what shuts it; the fractured borrow; res; true; _3; …; …]
         move ! (2 ∷ []) $ use1 𝓛 (‵ (cell_at p R.mir (mach v.h ∷ []) v.b v.o)) (𝓛.laws.at_raw p (T'.mir erased) v.b v.o (mach v.h)) $ move ! (0 ∷ 2 ∷ 3 ∷ []) $ shuts ! tt R p v.h (mach v.h ∷ []) v.b v.o $

@@ -2,7 +2,7 @@
 use mathlib.Core.Path.{refl}
 use base.Logic.{emp}
 use contract.Monad.{fact_i}
-use Rattle.openjoc_bit_reader.specs.Reader.{alignStep}
+use Rattle.openjoc_bit_reader.specs.Reader.{align_step}
 use Rattle.openjoc_bit_reader.specs.declared.AlignStep.{AlignStep}
 use Rattle.openjoc_bit_reader.proofs.Returned.{bare}
 use Rattle.openjoc_bit_reader.specs.contracts.MoveResult as S
@@ -19,6 +19,6 @@ use Rattle.openjoc_bit_reader.proofs.BitReader.byte_align.Code as code
 pub byte-align-spec : {M : Type 1} → stated.statement M
 unfolding code.routine
 byte-align-spec 𝓤 𝓛 𝓜 𝓡 =
-    bare S.the_type S'.the_field_laws S'.the_field_plain (P.the_type).name AlignStep (λ r. r.result) (λ r. r.cursor) (P.the_type).to_one alignStep #step 𝓛
+    bare S.the_type S'.the_field_laws S'.the_field_plain (P.the_type).name AlignStep (λ r. r.result) (λ r. r.cursor) (P.the_type).to_one align_step #step 𝓛
     (this.clauses 𝓛 𝓜.mem 𝓡.run) (λ v _. fact_i 𝓤 _ (emp 𝓤) (refl, refl)) 𝓜 𝓡
     code.env #this (code.unfolded 𝓤 𝓛.H 𝓜 𝓡) step-def.routine code.calls-openjoc-bit-reader::align-step (step_thm.met 𝓤 𝓛 𝓜 𝓡)

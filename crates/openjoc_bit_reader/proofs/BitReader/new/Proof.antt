@@ -34,7 +34,7 @@ use denote.Triple.Entry.{on_entry}
 use denote.Triple.Spec.{triple_of}
 use denote.Triple.Walked.{says, Stays, stay_none_slice, walk_of, Goes-none_slice, ends_at, walked}
 use denote.Exit.{yes}
-use Rattle.openjoc_bitio.specs.Cursor.{wholeSlice}
+use Rattle.openjoc_bitio.specs.Cursor.{whole_slice}
 use Rattle.openjoc_bitio.specs.declared.BitCursor.{BitCursor}
 use Rattle.openjoc_bit_reader.specs.declared.BitReader.{BitReader}
 use Rattle.openjoc_bit_reader.proofs.Walk.{asks, hears, by-walk}
@@ -90,7 +90,7 @@ module _ {M : Type 1} {𝓤 : Ura M} (𝓛 : Logic 𝓤) (mem : Memory → SProp
         qed 𝓛 ((‵ (flft κ q) ⊛ ‵ ftrue) ∷ ‵ (owns (ShrSlice (named 0) κ u8 ∷ []) (s, tt) (v ∷ [], tt)) ∷ []) ∵ move ! (1 ∷ []) $ fsplit ! $ use1 𝓛 (‵ Own ⊛ ‵ Own) twice $ split ! $
         move ! (0 ∷ 2 ∷ []) $ fjoin ! $ move ! (2 ∷ 0 ∷ []) $ use2 𝓛 (raw (Called.pre at)) (asks 𝓤 _) $ frame ! $ done !
 
-    exits : (c : BitCursor) → c ≡ wholeSlice s.now → Is Q.the_row c (Q'.lowered c ∷ []) → ent 𝓤 (⋆ 𝓛 ((‵ (flft κ q) ⊛ ‵ ftrue) ∷ ‵ Own ∷ [])) ((walk_of 𝓛 this.ended stayed (this.clauses 𝓛 mem run)).post at (T'.lowered (made c)))
+    exits : (c : BitCursor) → c ≡ whole_slice s.now → Is Q.the_row c (Q'.lowered c ∷ []) → ent 𝓤 (⋆ 𝓛 ((‵ (flft κ q) ⊛ ‵ ftrue) ∷ ‵ Own ∷ [])) ((walk_of 𝓛 this.ended stayed (this.clauses 𝓛 mem run)).post at (T'.lowered (made c)))
     exits c e is =
         qed 𝓛 ((‵ (flft κ q) ⊛ ‵ ftrue) ∷ ‵ Own ∷ []) ∵ suffices ! _ (ends_at 𝓛 this.ended stayed (this.clauses 𝓛 mem run) at (T'.lowered (made c)) (made c) (tt, tt) (tt, tt)) $ says ! (ap made e) $
         frame ! $ use1 𝓛 (‵ Own ⊛ ‵ Own) twice $ split ! $ nothing ! $ move ! (1 ∷ 0 ∷ []) $ fjoin ! $ frame ! $
@@ -104,7 +104,7 @@ module _ {M : Type 1} {𝓤 : Ura M} (𝓛 : Logic 𝓤) (mem : Memory → SProp
         alloc1 ! (λ l₀. alloc1 ! (λ l₁. alloc1 ! (λ l₂. alloc0 ! $ params1 ! $ pass1 ! (init ! 2 refl wt) $ pass0 ! $
         move ! (6 ∷ []) $ use1 𝓛 (raw (Called.pre at) ⊛ ‵ Own) apart $ split ! $
         calls_at ! fm Called known at (and_then ! (load ! (from ! (stop !)) (look ! 4 refl)) (no_more !)) (λ u.
-        hears ! tt step.ended (step.clauses 𝓛 mem run) at u (λ c. c ≡ wholeSlice s.now) (λ c e. id⊢ 𝓤 _) (λ c e is.
+        hears ! tt step.ended (step.clauses 𝓛 mem run) at u (λ c. c ≡ whole_slice s.now) (λ c e. id⊢ 𝓤 _) (λ c e is.
         -- [the token; what s owns; room for _2; …; _1; …; room for _0; …]
         land ! (from ! (stop !)) (init ! 2 refl ((LL.lawful Q.the_type Q'.the_laws 𝓛).typed c _ is).0) $
         rewrite ! 2 (λ (x : Val). ‵ (fat full_share Q'.mir l₂ 0 x)) (ap only (LL.tells Q.the_type Q'.the_laws c _ is)) refl $

@@ -3,7 +3,7 @@ use mathlib.Core.Path.{refl}
 use mir.Syntax.{w8}
 use base.Logic.{emp}
 use contract.Monad.{fact_i}
-use Rattle.openjoc_bit_reader.specs.Reader.{bitsStep}
+use Rattle.openjoc_bit_reader.specs.Reader.{bits_step}
 use Rattle.openjoc_bit_reader.specs.declared.BitsStep.{BitsStep}
 use Rattle.openjoc_bit_reader.proofs.Returned.{numbered}
 use Rattle.openjoc_bit_reader.specs.contracts.BitsResult as S
@@ -20,6 +20,6 @@ use Rattle.openjoc_bit_reader.proofs.BitReader.read_bits.Code as code
 pub read-bits-spec : {M : Type 1} → stated.statement M
 unfolding code.routine
 read-bits-spec 𝓤 𝓛 𝓜 𝓡 =
-    numbered S.the_type S'.the_field_laws S'.the_field_plain (P.the_type).name BitsStep (λ r. r.result) (λ r. r.cursor) (P.the_type).to_one w8 bitsStep #step 𝓛
+    numbered S.the_type S'.the_field_laws S'.the_field_plain (P.the_type).name BitsStep (λ r. r.result) (λ r. r.cursor) (P.the_type).to_one w8 bits_step #step 𝓛
     (this.clauses 𝓛 𝓜.mem 𝓡.run) (λ v n _. fact_i 𝓤 _ (emp 𝓤) (refl, refl)) 𝓜 𝓡
     code.env #this (code.unfolded 𝓤 𝓛.H 𝓜 𝓡) step-def.routine code.calls-openjoc-bit-reader::bits-step (step_thm.met 𝓤 𝓛 𝓜 𝓡)

@@ -27,7 +27,7 @@ use denote.Enum.Laws as EL
 use denote.Struct.Laws as LL
 use denote.Struct.Rest.{own_shut}
 use denote.Triple.Walked.{stay_none, Goes-none}
-use Rattle.openjoc_bit_reader.specs.Reader.{readerAt, windowStep, windowTaken}
+use Rattle.openjoc_bit_reader.specs.Reader.{reader_at, window_step, window_taken}
 use Rattle.openjoc_bit_reader.specs.declared.BitReader.{BitReader}
 use Rattle.openjoc_bit_reader.specs.declared.BitWindow.{BitWindow}
 use Rattle.openjoc_bit_reader.specs.declared.WindowStep.{WindowStep}
@@ -52,14 +52,14 @@ use Rattle.openjoc_bit_reader.proofs.BitReader.take_bits.Statement as stated
 use Rattle.openjoc_bit_reader.proofs.BitReader.take_bits.Code as code
 
 abbrev step : Stepper
-step = record { P = P.the_type; L = P'.the_laws; cursor = λ r. r.cursor; ss = numbers w64; ks = (yes, tt); g = λ _ t c n. windowStep t c n.0 }
+step = record { P = P.the_type; L = P'.the_laws; cursor = λ r. r.cursor; ss = numbers w64; ks = (yes, tt); g = λ _ t c n. window_step t c n.0 }
 
 abbrev method : Method
 method = record { ρ = plain (λ κs. X.the_row (α κs.1.0)); ss = numbers w64; ks = (yes, tt); hs = (stay_none (λ _. usize) yes, tt) }
 
 -- what is handed back for the step r at the reader h
 abbrev back : BitReader → WindowStep → BitWindow
-back h r = record { reader = readerAt h r.window; result = r.result }
+back h r = record { reader = reader_at h r.window; result = r.result }
 
 module _ (κ : Lft) (h : BitReader) (r : WindowStep) (is : Is P.the_row r (LL.val P.the_type P'.the_laws r ∷ [])) where
   window-is : Is Q.the_row r.window (Q'.lowered r.window ∷ [])
@@ -76,12 +76,12 @@ module _ (κ : Lft) (h : BitReader) (r : WindowStep) (is : Is P.the_row r (LL.va
 
   back-owns : {M : Type 1} {𝓤 : Ura M} (𝓛 : Logic 𝓤) → ent 𝓤 (sem 𝓛 (Own κ h)) (sem 𝓛 ((X.the_row (α κ)).own_val (back h r) (val ∷ [])))
   back-owns 𝓛 =
-      qed 𝓛 (‵ (Own κ h) ∷ []) ∵ use1 𝓛 (‵ (Own κ (readerAt h r.window))) (again κ h 𝓛 r.window window-is) $
-      nothing ! $ owned ! S.the_row (Is S.the_row) (EL.makes S.the_type S'.the_plain 𝓛) r.result _ result-is $ fjoin ! $ move ! (1 ∷ 0 ∷ []) $ fjoin ! $ by ! (own_shut 𝓛 (X.the_type (α κ)) (X'.the_laws (α κ)) (readerAt h r.window, (r.result, tt)))
+      qed 𝓛 (‵ (Own κ h) ∷ []) ∵ use1 𝓛 (‵ (Own κ (reader_at h r.window))) (again κ h 𝓛 r.window window-is) $
+      nothing ! $ owned ! S.the_row (Is S.the_row) (EL.makes S.the_type S'.the_plain 𝓛) r.result _ result-is $ fjoin ! $ move ! (1 ∷ 0 ∷ []) $ fjoin ! $ by ! (own_shut 𝓛 (X.the_type (α κ)) (X'.the_laws (α κ)) (reader_at h r.window, (r.result, tt)))
 
 module _ {M : Type 1} {𝓤 : Ura M} (𝓛 : Logic 𝓤) (mem : Memory → SProp 𝓤) (run : Routine → Fun 𝓤) where
-  claim : (v : Lent) (n : ℕ) (r : WindowStep) → r ≡ windowTaken v.h n → ent 𝓤 (emp 𝓤) (Claim method 𝓤 (this.clauses 𝓛 mem run) v (n, tt) tt (back v.h r) r.cursor (tt, tt))
-  claim v n r e = fact_i 𝓤 _ (emp 𝓤) (ap (back v.h) e, ap (λ (s : WindowStep). readerAt v.h s.cursor) e)
+  claim : (v : Lent) (n : ℕ) (r : WindowStep) → r ≡ window_taken v.h n → ent 𝓤 (emp 𝓤) (Claim method 𝓤 (this.clauses 𝓛 mem run) v (n, tt) tt (back v.h r) r.cursor (tt, tt))
+  claim v n r e = fact_i 𝓤 _ (emp 𝓤) (ap (back v.h) e, ap (λ (s : WindowStep). reader_at v.h s.cursor) e)
 
   walk : Walking method 𝓤 (this.clauses 𝓛 mem run) 𝓛 step #step code.function (λ _. (uint_vals w64, tt))
   walk v bounds xs gh are C Λ fm known = let n = xs.0 in
@@ -92,7 +92,7 @@ module _ {M : Type 1} {𝓤 : Ura M} (𝓛 : Logic 𝓤) (mem : Memory → SProp
       steps step 𝓛 v (n, tt) (vint w64 n ∷ [], tt) _ l₁ l₃ l₅ l₄ ! fm known (number 𝓛 w64 n are.0.1) refl refl refl refl (and_then ! (load ! (from ! (stop !)) (look ! 15 refl)) (no_more !)) (λ r. load ! (from ! (fld ! refl (stop !))) (look_in ! 9 (sub ! 2 refl (whole !)))) (λ r is. (LL.owed P.the_type P'.the_laws r _ is).1.1.0) (λ r e is here.
       -- [the borrow, closed, and the tokens: four; what the reader owns; _1; _3; _5; _4; room for _6; what frees _6, _5, _4 and _3; _2; …; what frees _1; room for _0; …]
       assigns ! (agg ! (and_then ! (load ! (from ! (stop !)) (look ! 6 refl)) (and_then ! (load ! (from ! (fld ! refl (stop !))) (look_in ! 8 (sub ! 1 refl (whole !)))) (no_more !)))) (from ! (stop !))
-      (init ! 9 refl ((LL.lawful (T.the_type (α v.κ')) (T'.the_laws (α v.κ')) 𝓛).typed (readerAt v.h r.window) _ (fits v.κ' v.h r.window here (window-is v.κ' v.h r is))).0) $
+      (init ! 9 refl ((LL.lawful (T.the_type (α v.κ')) (T'.the_laws (α v.κ')) 𝓛).typed (reader_at v.h r.window) _ (fits v.κ' v.h r.window here (window-is v.κ' v.h r is))).0) $
       assigns ! (agg ! (and_then ! (load ! (from ! (stop !)) (look ! 9 refl)) (and_then ! (load ! (from ! (fld ! refl (stop !))) (look_in ! 8 (sub ! 0 refl (whole !)))) (no_more !)))) (from ! (stop !))
       (init ! 17 refl ((LL.lawful (X.the_type (α v.κ')) (X'.the_laws (α v.κ')) 𝓛).typed (back v.h r) _ (back_is v.κ' v.h r is here)).0) $
       returns ! (look ! 17 refl) $ forget ! 5 refl $ forget ! 6 refl $ forget ! 7 refl $ forget ! 8 refl $ forget ! 9 refl $ forget ! 14 refl $ forget ! 17 refl $
