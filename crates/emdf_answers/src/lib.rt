@@ -1,4 +1,5 @@
 // The answers to a C host as numbers. docs/HOST.md has each byte form.
+#![tactic(auto)]
 ghost use Rattle.std.specs.Prelude.{◌≡◌, [], ◌∷◌, length, get_or};
 ghost use Rattle.emdf_format.specs.declared.Figures.{Figures};
 ghost use Rattle.emdf_answers.specs.Bits.{accepted, refused_at, bits_reply, bit_reply, window_reply, align_reply, figures_at};
@@ -20,7 +21,7 @@ use openjoc_bitio::{AlignAnswer, BitAnswer, BitCursor, BitsAnswer, WindowAnswer}
 use openjoc_emdf::{CarrierClassification, ParsedEmdf};
 
 // An answer of the bit calls: its number, its value or its two figures, the cursor after it, and the window taken.
-#[derive(Drop)]
+#[derive(Clone, Copy)]
 pub struct BitReply {
     pub number: u32,
     pub first: u64,
@@ -30,7 +31,7 @@ pub struct BitReply {
 }
 
 // The same of a variable field, and how many groups it has.
-#[derive(Drop)]
+#[derive(Clone, Copy)]
 pub struct FieldReply {
     pub reply: BitReply,
     pub groups: u64,

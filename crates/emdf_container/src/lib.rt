@@ -1,5 +1,6 @@
 // A container: its protection, its end, and all of it after the declared length. Each function answers what its definition in
 // emdf_format says.
+#![tactic(auto)]
 ghost use Rattle.std.specs.Prelude.{◌≡◌, true, ◌+◌, ◌-◌, ◌*◌, ◌^◌, ◌≤◌, ◌<◌, List, length};
 ghost use Rattle.emdf_format.specs.Contents.{protection_length};
 ghost use Rattle.emdf_format.specs.Reader.{octets};
@@ -15,7 +16,7 @@ use emdf_payload_list::ListAnswer;
 use openjoc_bitio::{BitCursor, BitsAnswer, ByteCount};
 
 // At most 16 bytes of protection, as a number of 128 bits with the last byte its lowest: an enum can't hold an array.
-#[derive(Drop)]
+#[derive(Clone, Copy)]
 pub struct ProtectionBytes {
     pub length: ByteCount,
     pub high: u64,
@@ -23,14 +24,14 @@ pub struct ProtectionBytes {
 }
 
 // Both protections, which are not looked into.
-#[derive(Drop)]
+#[derive(Clone, Copy)]
 pub struct EmdfProtection {
     pub primary: ProtectionBytes,
     pub secondary: ProtectionBytes,
 }
 
 // A container: its key id, how many payloads it has, its protection, and the largest number of groups of a variable field in it.
-#[derive(Drop)]
+#[derive(Clone, Copy)]
 pub struct EmdfContainer {
     pub key_id: u64,
     pub payloads: usize,
@@ -39,14 +40,14 @@ pub struct EmdfContainer {
 }
 
 // What a container answers.
-#[derive(Drop)]
+#[derive(Clone, Copy)]
 pub enum ContainerAnswer {
     Container(EmdfContainer),
     Refused(EmdfError),
 }
 
 // What the bytes of a protection answer.
-#[derive(Drop)]
+#[derive(Clone, Copy)]
 enum BytesAnswer {
     Bytes(ProtectionBytes, BitCursor),
     Refused(EmdfError),

@@ -1,4 +1,5 @@
 // Fields: bits, variable fields, fields with an escape, octets. Each answers what its reader in emdf_format finds.
+#![tactic(auto)]
 ghost use Rattle.std.specs.Prelude.{◌≡◌, ◌+◌, ◌-◌, ◌*◌, ◌^◌, ◌<◌};
 ghost use Rattle.emdf_format.specs.Syntax.{escape as ones};
 ghost use Rattle.emdf_format.specs.Reader.{bits, groups_from, variable_bits, extended_value, octets};
@@ -8,35 +9,35 @@ use emdf_format::{EmdfError, MAX_EXTENDED_GROUPS};
 use openjoc_bitio::{BitCursor, BitError, BitsAnswer};
 
 // A number field's answer. A refused field has the cursor after the last bit that it read.
-#[derive(Drop)]
+#[derive(Clone, Copy)]
 pub enum FieldAnswer {
     Value(u64, BitCursor),
     Refused(EmdfError, BitCursor),
 }
 
 // A variable field's answer: its value, how many groups it has, and the cursor past them.
-#[derive(Drop)]
+#[derive(Clone, Copy)]
 pub enum VariableAnswer {
     Value(u64, usize, BitCursor),
     Refused(EmdfError, BitCursor),
 }
 
 // How many octets there are, and the cursor past them.
-#[derive(Drop)]
+#[derive(Clone, Copy)]
 pub enum CountAnswer {
     Counted(usize, BitCursor),
     Refused(EmdfError),
 }
 
 // What one group of a variable field answers: the value, or where the next group's sum starts.
-#[derive(Drop)]
+#[derive(Clone, Copy)]
 enum GroupAnswer {
     Last(u64, BitCursor),
     More(u64, BitCursor),
     Refused(EmdfError, BitCursor),
 }
 
-#[derive(Drop)]
+#[derive(Clone, Copy)]
 enum StartAnswer {
     Start(u64),
     TooLarge,

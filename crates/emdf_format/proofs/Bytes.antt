@@ -26,11 +26,15 @@ pub mono : {s : List ℕ} {e p q : ℕ} {bs : List ℕ} (e' : ℕ) → bit_limit
 mono e' l nil = nil
 mono e' l (cons k b h) = cons (le_trans k l) b (mono e' l h)
 
+-- at one place there is one list of bits up to an end
+pub unique_to : {s : List ℕ} {e p q q' : ℕ} {xs ys : List ℕ} → Stands s e p q xs → Stands s e p q' ys → q ≡ q' → xs ≡ ys
+unique_to nil nil z = refl
+unique_to nil (cons l b h) z = absurd (omega (arith, stands-to h))
+unique_to (cons l b h) nil z = absurd (omega (arith, stands-to h))
+unique_to (cons {bs = xs} l b h) (cons {b = b'} {bs = ys} l' c k) z = rw (← b, ← c, unique_to h k z)
+
 pub unique : {s : List ℕ} {e p q : ℕ} {xs ys : List ℕ} → Stands s e p q xs → Stands s e p q ys → xs ≡ ys
-unique nil nil = refl
-unique nil (cons l b h) = absurd (omega (arith, stands-to h))
-unique (cons l b h) nil = absurd (omega (arith, stands-to h))
-unique (cons {bs = xs} l b h) (cons {b = b'} {bs = ys} l' c k) = rw (← b, ← c, unique h k)
+unique h k = unique_to h k refl
 
 -- ---- what is stored in two parts
 

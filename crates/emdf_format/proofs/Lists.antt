@@ -19,7 +19,7 @@ use Rattle.emdf_format.specs.Calls.{in_table}
 use Rattle.emdf_format.specs.Ordinals.{ordinal_at, ids_of}
 use Rattle.emdf_format.specs.Edits.{Edit, body_edit, settings_edit, drop_edit, insert_edit, key_edit, protection_edit, with_at, with_body, with_config, with_payloads, cleared, change, place_exists, Stepped, changed, unchanged, carrier_length, in_room, step_to, step, step_answer, step_contents, written, step_from, edited, Call, next_source, done, leaves, answers, event_of, events, outcome, plain_contents, plain_answers, Bytes, EditBytes, CallsBytes, ReadsAs, EqualityOfCarriers}
 use Rattle.emdf_format.proofs.Standing.{T_of, if_yes, both, and}
-use Rattle.emdf_format.proofs.Payloads.{all_found_from}
+use Rattle.emdf_format.proofs.Payloads.{body_end, all_found_from}
 use Rattle.emdf_format.proofs.Container.{container_from}
 use Rattle.emdf_format.proofs.Bytes.{length-carrier}
 use Rattle.emdf_format.proofs.Carrier.{read-sound, read-exact, contents-back, carrier-injective}
@@ -49,7 +49,7 @@ carries-read {s} {c} k =
 length_found : (p : ℕ) (xs : List Payload) → length (all_found_from p xs) ≡ length xs
 unfolding all_found_from
 length_found p [] = refl
-length_found p (x ∷ xs) = ap suc (length_found _ xs)
+length_found p (x ∷ xs) = ap suc (length_found (body_end p x) xs)
 
 -- equal contents, equal bytes; and the other way
 pub carries_same : {s s' : List ℕ} {c c' : Contents} → Carries s c → Carries s' c' → (s ≡ s') ↔ (c ≡ c')
@@ -223,7 +223,7 @@ unfolding leaves answers events plain_contents plain_answers CallsBytes
 follow s c [] b k = record { left = k; answered = refl }
 follow s c (t ∷ ts) b k =
     let f = followed s c t b.0 k in
-    let r = follow _ _ ts b.1 f.left in
+    let r = follow (done s t).left (outcome c (event_of t)).contents ts b.1 f.left in
     record { left = r.left; answered = rw (f.answered, r.answered) }
 
 pub equality-of-carriers : EqualityOfCarriers

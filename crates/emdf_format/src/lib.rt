@@ -1,5 +1,6 @@
 // The EMDF container of ETSI TS 102 366 Annex H: its constants, and the types that definitions and calls share. The format
 // itself is specs/.
+#![tactic(auto)]
 use openjoc_bitio::{BitError, BitOffset, ByteCount};
 
 pub const SYNCWORD: u16 = 0x5838;
@@ -20,14 +21,14 @@ pub const MAX_SIZE_GROUPS: u8 = 2;
 pub const MAX_DECLARED: usize = 65535;
 
 // What of a carrier is cut off: its first four bytes, or bytes that they declare.
-#[derive(Drop)]
+#[derive(Clone, Copy)]
 pub enum TruncatedPart {
     Header,
     Body,
 }
 
 // Why a reading is refused.
-#[derive(Drop)]
+#[derive(Clone, Copy)]
 pub enum EmdfError {
     TruncatedContainer {
         part: TruncatedPart,
@@ -59,7 +60,7 @@ pub enum EmdfError {
 }
 
 // A refusal's number in the scope, and its figures: none, one or two.
-#[derive(Drop)]
+#[derive(Clone, Copy)]
 pub enum Refusal {
     Bare(u32),
     One(u32, u64),
@@ -67,7 +68,7 @@ pub enum Refusal {
 }
 
 // The same with zeros for the figures that it doesn't have. The number of what is accepted is 0.
-#[derive(Drop)]
+#[derive(Clone, Copy)]
 pub struct Figures {
     pub number: u32,
     pub first: u64,
@@ -75,14 +76,14 @@ pub struct Figures {
 }
 
 // A setting that may be absent. Any number may stand in it: which are writable is a question.
-#[derive(Drop)]
+#[derive(Clone, Copy)]
 pub enum Optional {
     Absent,
     Present(u64),
 }
 
 // The ten settings of a payload, in the order in which they are written.
-#[derive(Drop)]
+#[derive(Clone, Copy)]
 pub struct EmdfPayloadConfig {
     pub sample_offset: Optional,
     pub duration: Optional,
@@ -97,7 +98,7 @@ pub struct EmdfPayloadConfig {
 }
 
 // Where a payload's parts stand, from the carrier's first bit.
-#[derive(Drop)]
+#[derive(Clone, Copy)]
 pub struct EmdfPayloadBitTrace {
     pub payload_id_start_bit: BitOffset,
     pub payload_id_end_bit: BitOffset,
@@ -110,7 +111,7 @@ pub struct EmdfPayloadBitTrace {
 }
 
 // What a reading records of a payload.
-#[derive(Drop)]
+#[derive(Clone, Copy)]
 pub struct PayloadRecord {
     pub id: u64,
     pub config: EmdfPayloadConfig,
@@ -118,21 +119,21 @@ pub struct PayloadRecord {
 }
 
 // A row of a table: what is recorded of a payload, and which of the payloads of its id it is, from 1.
-#[derive(Drop)]
+#[derive(Clone, Copy)]
 pub struct PayloadRow {
     pub payload: PayloadRecord,
     pub ordinal: u64,
 }
 
 // Why a reading that fills a table of records is refused: as any reading is, or for want of rows.
-#[derive(Drop)]
+#[derive(Clone, Copy)]
 pub enum RecordsError {
     Emdf(EmdfError),
     TableTooShort { payloads: usize },
 }
 
 // Why the body of a payload is not moved.
-#[derive(Drop)]
+#[derive(Clone, Copy)]
 pub enum BodyError {
     Emdf(EmdfError),
     NoSuchPayload,
@@ -140,49 +141,49 @@ pub enum BodyError {
 }
 
 // The move call's answer: the body's first bit in the carrier, and its length.
-#[derive(Drop)]
+#[derive(Clone, Copy)]
 pub enum BodyAnswer {
     Body(BitOffset, ByteCount),
     Refused(BodyError),
 }
 
 // Why no payload is found by its id and ordinal.
-#[derive(Drop)]
+#[derive(Clone, Copy)]
 pub enum FindError {
     Emdf(EmdfError),
     NoSuchOrdinal,
 }
 
 // The finding call's answer: the payload's place.
-#[derive(Drop)]
+#[derive(Clone, Copy)]
 pub enum FindAnswer {
     Place(usize),
     Refused(FindError),
 }
 
 // The policy of a verdict: tables 55 and 56 as the original has them, or with the deviations that it lets pass.
-#[derive(Drop)]
+#[derive(Clone, Copy)]
 pub enum JocValidationProfile {
     EtsiStrict,
     ObservedVendorCompat,
 }
 
 // A payload's place in its container, and its settings.
-#[derive(Drop)]
+#[derive(Clone, Copy)]
 pub struct PlacedConfig {
     pub place: usize,
     pub config: EmdfPayloadConfig,
 }
 
 // The two payloads of table 55.
-#[derive(Drop)]
+#[derive(Clone, Copy)]
 pub enum JocRole {
     Oamd,
     Joc,
 }
 
 // What the profile wants of a setting.
-#[derive(Drop)]
+#[derive(Clone, Copy)]
 pub enum JocProfileValue {
     Absent,
     Present,
@@ -190,14 +191,14 @@ pub enum JocProfileValue {
 }
 
 // The one deviating value of a setting that the compat policy lets pass, if any.
-#[derive(Drop)]
+#[derive(Clone, Copy)]
 pub enum AllowedDeviation {
     Never,
     Only(Optional),
 }
 
 // The settings that the profile asks, under the original's names.
-#[derive(Drop)]
+#[derive(Clone, Copy)]
 pub enum JocProfileField {
     SampleOffset,
     Duration,
@@ -211,14 +212,14 @@ pub enum JocProfileField {
     ProcessingAllowed,
 }
 
-#[derive(Drop)]
+#[derive(Clone, Copy)]
 pub enum JocValidationStatus {
     NormativeCompliant,
     AcceptedWithDeviation,
 }
 
 // Why a verdict refuses. The deviations are a word of marks, the first its lowest bit, and their number.
-#[derive(Drop)]
+#[derive(Clone, Copy)]
 pub enum JocProfileError {
     Emdf(EmdfError),
     PayloadCount { oamd: usize, joc: usize },
@@ -227,7 +228,7 @@ pub enum JocProfileError {
 
 // A carrier that a profile accepts: the places of its two payloads, the marks, and the largest number of groups of a variable
 // field.
-#[derive(Drop)]
+#[derive(Clone, Copy)]
 pub struct ValidatedJocProfile {
     pub oamd: usize,
     pub joc: usize,
@@ -236,14 +237,14 @@ pub struct ValidatedJocProfile {
     pub largest_groups: usize,
 }
 
-#[derive(Drop)]
+#[derive(Clone, Copy)]
 pub enum JocProfileAnswer {
     Accepted(ValidatedJocProfile),
     Refused(JocProfileError),
 }
 
 // Why an edit is refused.
-#[derive(Drop)]
+#[derive(Clone, Copy)]
 pub enum EditError {
     Emdf(EmdfError),
     TrailingData,
@@ -254,14 +255,14 @@ pub enum EditError {
 }
 
 // An edit's answer: the length of the carrier that it wrote, or why it wrote nothing.
-#[derive(Drop)]
+#[derive(Clone, Copy)]
 pub enum EditAnswer {
     Written(ByteCount),
     Refused(EditError),
 }
 
 // Why a recipe of edits is not run.
-#[derive(Drop)]
+#[derive(Clone, Copy)]
 pub enum RecipeError {
     BrokenChain,
     InvalidRecord,

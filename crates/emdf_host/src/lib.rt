@@ -1,4 +1,5 @@
 // What a C host calls: exported functions on numbers and byte slices. docs/HOST.md has each byte form.
+#![tactic(auto)]
 ghost use Rattle.std.specs.Prelude.{◌≡◌};
 ghost use Rattle.emdf_format.specs.Reading.{reading};
 ghost use Rattle.emdf_format.specs.Calls.{classify};

@@ -1,5 +1,5 @@
 -- A payload looked for by its id and ordinal, as a loop over skip_payload comes to it. Assumes nothing.
-use mathlib.Core.Path.{◌≡◌, refl, sym, ap, ◌∙◌}
+use mathlib.Core.Path.{◌≡◌, refl, sym, ap, subst, ◌∙◌}
 use mathlib.Core.Bool.{Bool, true, false}
 use mathlib.Core.List.{List, [], ◌∷◌, ◌++◌, append_assoc}
 use Prim.Native.Nat.{ℕ, suc, ◌+◌, ◌≤◌}
@@ -63,7 +63,9 @@ module _ {s : List ℕ} {c : BitCursor} {x o place seen : ℕ} {answer : FindAns
             → find_in x o place (rows_from (a.before ++ ids_in (y ∷ ys)) place (y ∷ ys)) ≡ (if is_wanted r.id x o seen then Place place else find_in x o (suc place) (rows_from ((a.before ++ r.id ∷ []) ++ ids_in ys) (suc place) ys))
         first-row y ys i =
             let n : ordinal_at (a.before ++ y.record_of.id ∷ ids_in ys) place ≡ suc (occurrences y.record_of.id a.before) = ap (ordinal_at (a.before ++ y.record_of.id ∷ ids_in ys)) (sym a.passed) ∙ ordinal-next a.before y.record_of.id (ids_in ys) in
-            rw (n, ← wanted-row y.record_of.id x o a.before, i, a.counted, append_assoc a.before (r.id ∷ []) (ids_in ys))
+            let P : ℕ → Type 0 = λ q. (if is_wanted q x o (occurrences x a.before) then Place place else find_in x o (suc place) (rows_from (a.before ++ q ∷ ids_in ys) (suc place) ys)) ≡ (if is_wanted r.id x o seen then Place place else find_in x o (suc place) (rows_from ((a.before ++ r.id ∷ []) ++ ids_in ys) (suc place) ys)) in
+            let last : P r.id = rw (a.counted, append_assoc a.before (r.id ∷ []) (ids_in ys)) in
+            rw (n, ← wanted-row y.record_of.id x o a.before) (subst P (sym i) last)
 
     pub looked-found : is_wanted r.id x o seen ≡ true → Place place ≡ answer
     looked-found w = let (others, l, e) = turned a.left refl a.listed in sym (rw w at e)

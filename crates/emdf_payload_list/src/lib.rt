@@ -1,4 +1,5 @@
 // The list of payloads: how many there are, and the largest number of groups in them.
+#![tactic(auto)]
 ghost use Rattle.std.specs.Prelude.{◌≡◌, ◌-◌, ◌^◌, ◌<◌};
 ghost use Rattle.openjoc_bitio.specs.Cursor.{bits_remaining};
 ghost use Rattle.emdf_format.specs.Reading.{payloads};
@@ -11,14 +12,14 @@ use emdf_payloads::PayloadStep;
 use openjoc_bitio::BitCursor;
 
 // How many payloads there are, the largest number of groups in them, and the cursor past the end mark.
-#[derive(Drop)]
+#[derive(Clone, Copy)]
 pub enum ListAnswer {
     List(usize, usize, BitCursor),
     Refused(EmdfError),
 }
 
 // A payload that is passed, with the larger of a number of groups and its own; or the end of the list.
-#[derive(Drop)]
+#[derive(Clone, Copy)]
 enum ListStep {
     Past(usize, BitCursor),
     End(BitCursor),

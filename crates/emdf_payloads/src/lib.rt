@@ -1,4 +1,5 @@
 // Payloads one after another. Each function answers what its definition in emdf_format says; a compact payload is read from words.
+#![tactic(auto)]
 ghost use Rattle.std.specs.Prelude.{◌≡◌, true, ◌+◌, ◌^◌, ◌<◌};
 ghost use Rattle.emdf_format.specs.Reading.{trace_of, payload_after};
 ghost use Rattle.openjoc_bitio.specs.Bits.{window_at};
@@ -12,7 +13,7 @@ use emdf_settings::ConfigAnswer;
 use openjoc_bitio::{BitCursor, BitOffset};
 
 // What stands next in the list of payloads: a payload, or the id 0 that ends it.
-#[derive(Drop)]
+#[derive(Clone, Copy)]
 pub enum PayloadStep {
     Payload(PayloadRecord, BitCursor),
     End(BitCursor),
@@ -20,7 +21,7 @@ pub enum PayloadStep {
 }
 
 // The same, of a payload only its id.
-#[derive(Drop)]
+#[derive(Clone, Copy)]
 pub enum SkipStep {
     Past(u64, BitCursor),
     End(BitCursor),
@@ -29,7 +30,7 @@ pub enum SkipStep {
 
 // The end mark or a compact payload: the word that holds its head, how many bits its head takes, with emdf_compact's mark of a
 // group id of two groups, and how many its size and all of it.
-#[derive(Drop)]
+#[derive(Clone, Copy)]
 pub struct CompactPayload {
     pub word: u64,
     pub head: usize,

@@ -86,7 +86,7 @@ module _ (s : List ℕ) (mark : ℕ) where
   past_all : (c : BitCursor) (xs : List Found) → Ahead s mark c xs → (past_payloads s c (length xs)).position ≡ mark
   unfolding past_payloads payloads_of needed_payloads
   past_all c [] a = omega (arith, a.marked)
-  past_all c (x ∷ xs) a = past_all _ xs (past_one c x xs a)
+  past_all c (x ∷ xs) a = past_all (past_step (skip_of (step_at s c)) c) xs (past_one c x xs a)
 
   -- past the first, where there is one, and then past the others
   pub past-rest : (c : BitCursor) (xs : List Found) → Ahead s mark c xs → (past_payloads s (placed_at (step_at s c) c).next (length xs - 1)).position ≡ mark

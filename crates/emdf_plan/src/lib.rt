@@ -1,4 +1,5 @@
 // What an edit asks before it writes, and where it cuts its source.
+#![tactic(auto)]
 ghost use Rattle.std.specs.Prelude.{◌≡◌, ◌+◌, ◌-◌, ◌*◌, ◌^◌, ◌<◌, ◌≤◌, length};
 ghost use Rattle.emdf_format.specs.Reading.{trace_of};
 ghost use Rattle.emdf_payloads.specs.Payloads.{step_at};
@@ -13,7 +14,7 @@ use openjoc_bitio::{BitCursor, BitOffset, ByteCount};
 use openjoc_emdf::{OpenAnswer, ParsedEmdf, open_carrier};
 
 // Where a container's parts stand, with the payload at one place, or the end mark where there is none.
-#[derive(Drop)]
+#[derive(Clone, Copy)]
 pub struct Layout {
     pub first: BitOffset,
     pub place: EmdfPayloadBitTrace,
@@ -22,7 +23,7 @@ pub struct Layout {
 }
 
 // The spans of the payload that stands at a cursor, or of nothing, and the cursor past it.
-#[derive(Drop)]
+#[derive(Clone, Copy)]
 pub struct Placed {
     pub trace: EmdfPayloadBitTrace,
     pub next: BitCursor,
@@ -30,7 +31,7 @@ pub struct Placed {
 
 // The bits to replace in a source, where the bits after them that are kept end, and the bytes that the container declares
 // afterwards.
-#[derive(Drop)]
+#[derive(Clone, Copy)]
 pub struct Cut {
     pub from: BitOffset,
     pub to: BitOffset,
@@ -39,7 +40,7 @@ pub struct Cut {
 }
 
 // What is to be done: a splice, or nothing.
-#[derive(Drop)]
+#[derive(Clone, Copy)]
 pub enum Plan {
     Splice(Cut),
     Refused(EditError),

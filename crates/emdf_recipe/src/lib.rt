@@ -1,11 +1,12 @@
 // A recipe of edits on file: its records, and the check of its whole chain, before any edit.
+#![tactic(auto)]
 ghost use Rattle.std.specs.Prelude.{◌≡◌, ◌^◌, ◌<◌, ◌≤◌};
 ghost use Rattle.emdf_recipe.specs.File.{octets_number, record_at, next_allowed, record_allowed, link_of, recipe_of, check_answer};
 
 use emdf_format::RecipeError;
 
 // A record of the file.
-#[derive(Drop)]
+#[derive(Clone, Copy)]
 pub struct RecipeRecord {
     pub next: usize,
     pub kind: u64,
@@ -16,14 +17,14 @@ pub struct RecipeRecord {
 }
 
 // The next record's number, or what is wrong with this one.
-#[derive(Drop)]
+#[derive(Clone, Copy)]
 pub enum Link {
     Next(usize),
     Broken(RecipeError),
 }
 
 // How many edits a recipe has, or why it has none.
-#[derive(Drop)]
+#[derive(Clone, Copy)]
 pub enum CheckAnswer {
     Edits(usize),
     Refused(RecipeError),

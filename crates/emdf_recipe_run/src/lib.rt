@@ -1,4 +1,5 @@
 // A recipe of edits on file, run over two lent buffers.
+#![tactic(auto)]
 ghost use Rattle.std.specs.Prelude.{◌≡◌, [], ◌<◌};
 ghost use Rattle.emdf_request.specs.Requests.{edit_of};
 ghost use Rattle.emdf_recipe.specs.File.{edits, recipe_of, edits_of};
@@ -11,7 +12,7 @@ use emdf_request::Request;
 use openjoc_bitio::ByteCount;
 
 // Which slice holds the carrier: the one that the run started from, or a lent buffer.
-#[derive(Drop)]
+#[derive(Clone, Copy)]
 pub enum Holder {
     Start,
     First,
@@ -19,21 +20,21 @@ pub enum Holder {
 }
 
 // Where the carrier is now, its length, and how many edits were refused.
-#[derive(Drop)]
+#[derive(Clone, Copy)]
 pub struct RunAnswer {
     pub holder: Holder,
     pub length: ByteCount,
     pub refused: usize,
 }
 
-#[derive(Drop)]
+#[derive(Clone, Copy)]
 pub enum RecipeAnswer {
     Ran(RunAnswer),
     Refused(RecipeError),
 }
 
 // The bytes of the file that a record brings.
-#[derive(Drop)]
+#[derive(Clone, Copy)]
 pub struct Span {
     pub from: usize,
     pub to: usize,

@@ -2,11 +2,10 @@
 -- end; of the rows that are there only their ids and ordinals count, and the slots of their ids. Assumes nothing.
 use mathlib.Core.Path.{◌≡◌, refl, sym, ap, ◌∙◌}
 use mathlib.Core.List.{List, [], ◌∷◌}
-use Prim.Native.Nat.{ℕ, suc, ◌+◌, ◌-◌, ◌≤◌, ◌<◌, ◌^◌}
+use Prim.Native.Nat.{ℕ, suc, ◌+◌, ◌≤◌, ◌<◌, ◌^◌}
 use native.Mathlib.Omega.{arith}
 use lib.ListN.{length, get_or, drop, replicate, set, length-set, length-replicate}
 use lib.Seq.{sets, drop-cons}
-use denote.Laws.{Is}
 use Rattle.openjoc_bitio.specs.declared.BitCursor.{BitCursor}
 use Rattle.emdf_format.specs.Reading.{Found, reading}
 use Rattle.emdf_format.specs.Ordinals.{ids_in, rows_from}
@@ -14,16 +13,15 @@ use Rattle.emdf_format.proofs.Ordinals.{length-ids-in}
 use Rattle.emdf_format.specs.Calls.{Records, in_table, table_after}
 use Rattle.emdf_format.specs.declared.PayloadRecord.{PayloadRecord}
 use Rattle.emdf_format.specs.declared.PayloadRow.{PayloadRow}
-use Rattle.emdf_payloads.specs.declared.PayloadStep.TheVariants as PayloadStep
+use Rattle.emdf_payloads.specs.declared.PayloadStep.{PayloadStep}
 use Rattle.emdf_payloads.specs.Payloads.{step_at}
 use Rattle.emdf_ordinals.specs.Rows.{slot_of, searched, slots_with}
 use Rattle.emdf_ordinals.proofs.Rows.{Tracks, tracks-none, tracks-next}
-use Rattle.emdf_records_plan.specs.Records.{records_plan}
+use Rattle.emdf_records_plan.specs.Records.{records_plan, GivesRecords}
 use Rattle.emdf_records_plan.specs.declared.RecordsPlan.{RecordsPlan}
-use Rattle.emdf_records_plan.proofs.Records.{inside, Left, rest, Turned, turned, planned, plan-is, filled}
+use Rattle.emdf_records_plan.proofs.Records.{inside, Left, rest, never-ended, never-refused, Turned, turned, planned, plan-is, filled}
 use Rattle.emdf_records_row.specs.Row.{last_of, row_after}
 use Rattle.emdf_records_row.proofs.Numbered.{RowsNumbered, numbered-none, row_at, numbered_next, row-is-at, found-most}
-use Rattle.emdf_records.proofs.Row.{Cursor, cursor_val}
 
 -- of a table xs and a carrier in s
 abbrev pub plan : List ℕ → List PayloadRow → RecordsPlan
@@ -36,13 +34,8 @@ abbrev pub ids : List ℕ → List PayloadRow → List ℕ
 ids s xs = ids_in (planned (done s xs))
 
 -- before row k: the cursor, the table, the ids' slots, and the payloads that are left
-pub record State (s : List ℕ) (xs : List PayloadRow) : Type 0 where
-  pub k : ℕ
-  pub at : BitCursor
-  pub l : List PayloadRow
-  pub slots : List ℕ
+pub record State (s : List ℕ) (xs : List PayloadRow) (k : ℕ) (at : BitCursor) (l : List PayloadRow) (slots : List ℕ) : Type 0 where
   pub left : List Found
-  pub at-is : Is Cursor at (cursor_val at ∷ [])
   pub counted : k + length left ≡ (plan s xs).count
   pub len : length l ≡ length xs
   pub ahead : Left s at left
@@ -66,14 +59,9 @@ module _ (s : List ℕ) (xs : List PayloadRow) where
   pub all-counted : 0 + length (planned (done s xs)) ≡ (plan s xs).count
   all-counted = omega (arith, (plan-is s (length xs) (reading s) refl).count)
 
-  abbrev pub start : Is Cursor (plan s xs).first (cursor_val (plan s xs).first ∷ []) → State s xs
-  start i = record {
-    k = 0;
-    at = (plan s xs).first;
-    l = xs;
-    slots = no_slots;
+  pub start : State s xs 0 (plan s xs).first xs no_slots
+  start = record {
     left = planned (done s xs);
-    at-is = i;
     counted = all-counted;
     len = refl;
     ahead = (plan-is s (length xs) (reading s) refl).left;
@@ -84,92 +72,100 @@ module _ (s : List ℕ) (xs : List PayloadRow) where
     same = filled (done s xs) xs fits;
   }
 
-  module _ (st : State s xs) where
-    pub some_left : st.k < (plan s xs).count → 0 < length st.left
+  module _ {k : ℕ} {at : BitCursor} {l : List PayloadRow} {slots : List ℕ} (st : State s xs k at l slots) where
+    pub some_left : k < (plan s xs).count → 0 < length st.left
     some_left h = omega (arith, st.counted)
 
-    module _ {r : PayloadRecord} {c : BitCursor} (g : step_at (inside s st.at) st.at ≡ PayloadStep.Payload r c) (h : st.k < (plan s xs).count) where
+    module _ {r : PayloadRecord} {c : BitCursor} (g : step_at (inside s at) at ≡ PayloadStep.Payload r c) (h : k < (plan s xs).count) where
       abbrev pub turn : Turned s st.left c r
-      turn = turned s st.at st.left st.ahead (some_left h) g
+      turn = turned s at st.left st.ahead (some_left h) g
 
-      pub in-l : st.k < length st.l
+      pub in-l : k < length l
       in-l = omega (arith, h, room, st.len)
 
-      in_ids : st.k < length (ids s xs)
+      in_ids : k < length (ids s xs)
       in_ids = omega (arith, h, length-ids-in (planned (done s xs)), all-counted)
 
       -- the ids from this one on
-      own : r.id ∷ ids_in (rest st.left) ≡ get_or (ids s xs) st.k 0 ∷ drop (suc st.k) (ids s xs)
-      own = sym turn.ids ∙ st.ids-ahead ∙ drop-cons (ids s xs) st.k 0 in_ids
+      own : r.id ∷ ids_in (rest st.left) ≡ get_or (ids s xs) k 0 ∷ drop (suc k) (ids s xs)
+      own = sym turn.ids ∙ st.ids-ahead ∙ drop-cons (ids s xs) k 0 in_ids
 
-      pub own-id : get_or (ids s xs) st.k 0 ≡ r.id
+      pub own-id : get_or (ids s xs) k 0 ≡ r.id
       own-id = cc own
 
-      pub next-ids : ids_in (rest st.left) ≡ drop (st.k + 1) (ids s xs)
+      pub next-ids : ids_in (rest st.left) ≡ drop (k + 1) (ids s xs)
       next-ids =
-          let e : st.k + 1 ≡ suc st.k = omega arith in
-          let f : ids_in (rest st.left) ≡ drop (suc st.k) (ids s xs) = cc own in
+          let e : k + 1 ≡ suc k = omega arith in
+          let f : ids_in (rest st.left) ≡ drop (suc k) (ids s xs) = cc own in
           rw e f
 
       -- the row that is put in
       abbrev pub new : PayloadRow
-      new = row_at (ids s xs) st.k r
+      new = row_at (ids s xs) k r
 
       -- how many rows are searched for it
       abbrev pub rows : ℕ
-      rows = searched st.slots r.id st.k
+      rows = searched slots r.id k
 
-      pub new_is : row_after st.l rows r ≡ new
-      new_is = row-is-at st.l (ids s xs) st.k st.numbered r own-id st.slots st.tracked in_ids
+      pub new_is : row_after l rows r ≡ new
+      new_is = row-is-at l (ids s xs) k st.numbered r own-id slots st.tracked in_ids
 
-      pub rows-within : rows ≤ st.k
+      pub rows-within : rows ≤ k
       rows-within = st.tracked.within r.id
 
-      pub asked : length xs < 2 ^ 64 → (rows ≤ st.k) × (st.k < length st.l) × (last_of st.l r.id rows + 1 < 2 ^ 64)
-      asked w = (rows-within, in-l, omega (arith, found-most st.l (ids s xs) st.k st.numbered r own-id st.slots st.tracked in_ids, h, room, w))
+      pub asked : {n : ℕ} → n ≡ rows → k + 1 < 2 ^ 64 → (n ≤ k) × (k < length l) × (last_of l r.id n + 1 < 2 ^ 64)
+      asked e w = rw e (rows-within, in-l, omega (arith, found-most l (ids s xs) k st.numbered r own-id slots st.tracked in_ids, w))
 
-      pub next-tracked : Tracks (slots_with st.slots r.id st.k) (ids s xs) (st.k + 1)
+      pub next-tracked : Tracks (slots_with slots r.id k) (ids s xs) (k + 1)
       next-tracked =
-          let e : st.k + 1 ≡ suc st.k = omega arith in
+          let e : k + 1 ≡ suc k = omega arith in
           rw (e, ← own-id) (tracks-next st.tracked in_ids)
 
-      pub next-counted : st.k + 1 + length (rest st.left) ≡ (plan s xs).count
+      pub next-counted : k + 1 + length (rest st.left) ≡ (plan s xs).count
       next-counted = omega (arith, st.counted, turn.count)
 
-      pub next-numbered : RowsNumbered (set st.l st.k new) (ids s xs) (st.k + 1)
-      next-numbered = numbered_next st.l (ids s xs) st.k st.numbered r own-id in-l
+      pub next-numbered : RowsNumbered (set l k new) (ids s xs) (k + 1)
+      next-numbered = numbered_next l (ids s xs) k st.numbered r own-id in-l
 
-      pub next-same : sets (set st.l st.k new) (st.k + 1) (rows_from (ids s xs) (st.k + 1) (rest st.left)) ≡ table_after (done s xs) xs
+      pub next-same : sets (set l k new) (k + 1) (rows_from (ids s xs) (k + 1) (rest st.left)) ≡ table_after (done s xs) xs
       next-same =
-          let e : st.k + 1 ≡ suc st.k = omega arith in
-          ap (λ (i : ℕ). sets (set st.l st.k new) i (rows_from (ids s xs) i (rest st.left))) e ∙ ap (sets st.l st.k) (sym (turn.rows (ids s xs) st.k)) ∙ st.same
+          let e : k + 1 ≡ suc k = omega arith in
+          ap (λ (i : ℕ). sets (set l k new) i (rows_from (ids s xs) i (rest st.left))) e ∙ ap (sets l k) (sym (turn.rows (ids s xs) k)) ∙ st.same
 
       -- one more row
-      abbrev pub next : Is Cursor c (cursor_val c ∷ []) → State s xs
-      next i = record {
-        k = st.k + 1;
-        at = c;
-        l = set st.l st.k new;
-        slots = slots_with st.slots r.id st.k;
+      next_state : State s xs (k + 1) c (set l k new) (slots_with slots r.id k)
+      next_state = record {
         left = rest st.left;
-        at-is = i;
         counted = next-counted;
-        len = length-set st.l st.k new ∙ st.len;
+        len = length-set l k new ∙ st.len;
         ahead = turn.left;
         ids-ahead = next-ids;
         numbered = next-numbered;
-        slots_len = length-set st.slots (slot_of r.id) (suc st.k) ∙ st.slots_len;
+        slots_len = length-set slots (slot_of r.id) (suc k) ∙ st.slots_len;
         tracked = next-tracked;
         same = next-same;
       }
 
-    pub nearer : st.k < (plan s xs).count → (plan s xs).count - (st.k + 1) < (plan s xs).count - st.k
-    nearer h = omega (arith, h)
+      pub next : {n : ℕ} {l' : List PayloadRow} {slots' : List ℕ} → n ≡ rows → slots' ≡ slots_with slots r.id k → l' ≡ set l k (row_after l n r) → State s xs (k + 1) c l' slots'
+      next e f g = rw (f, g, e, new_is) next_state
 
-    pub over : (plan s xs).count ≤ st.k → st.l ≡ table_after (done s xs) xs
+    -- nothing else is found, since one is left
+    pub never : (g : PayloadStep) → g ≡ step_at (inside s at) at → ((r : PayloadRecord) (c : BitCursor) → g ≡ PayloadStep.Payload r c → ⊥) → k < (plan s xs).count → ⊥
+    never (PayloadStep.Payload r c) e other h = other r c refl
+    never (PayloadStep.End c) e other h = never-ended s at st.left st.ahead (some_left h) (sym e)
+    never (PayloadStep.Refused why) e other h = never-refused s at st.left st.ahead (some_left h) (sym e)
+
+    pub over : (plan s xs).count ≤ k → l ≡ table_after (done s xs) xs
     unfolding rows_from
     over h = go st.left st.counted st.same
       where
-        go : (ys : List Found) → st.k + length ys ≡ (plan s xs).count → sets st.l st.k (rows_from (ids s xs) st.k ys) ≡ table_after (done s xs) xs → st.l ≡ table_after (done s xs) xs
+        go : (ys : List Found) → k + length ys ≡ (plan s xs).count → sets l k (rows_from (ids s xs) k ys) ≡ table_after (done s xs) xs → l ≡ table_after (done s xs) xs
         go [] e f = f
         go (y ∷ ys) e f = absurd (omega (arith, e, h))
+
+module _ (s : List ℕ) (xs : List PayloadRow) {p : RecordsPlan} (e : p ≡ plan s xs) where
+  pub planned_count : {k : ℕ} → k < p.count → k < (plan s xs).count
+  planned_count h = rw (← e) h
+
+  pub gives : {l : List PayloadRow} → l ≡ table_after (done s xs) xs → GivesRecords (done s xs) xs p.answer l
+  gives f = (rw e (plan-is s (length xs) (reading s) refl).answer, f)

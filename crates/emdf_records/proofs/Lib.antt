@@ -1,4 +1,1 @@
-pub mod Row
 pub mod Fill
-pub mod Again
-pub mod LocalArray

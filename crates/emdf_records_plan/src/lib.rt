@@ -1,4 +1,5 @@
 // What a reading into a table answers, and which rows it fills: all that is read and asked before the first row is filled.
+#![tactic(auto)]
 ghost use Rattle.std.specs.Prelude.{◌≡◌};
 ghost use Rattle.emdf_format.specs.Reading.{reading};
 ghost use Rattle.emdf_records_plan.specs.Records.{no_rows, rows_plan, records_plan};
@@ -8,14 +9,14 @@ use openjoc_bitio::BitCursor;
 use openjoc_emdf::{OpenAnswer, ParsedEmdf};
 
 // What a reading that fills a table answers.
-#[derive(Drop)]
+#[derive(Clone, Copy)]
 pub enum RecordsAnswer {
     Parsed(ParsedEmdf),
     Refused(RecordsError),
 }
 
 // How many rows to fill, the cursor at the first payload, and the answer.
-#[derive(Drop)]
+#[derive(Clone, Copy)]
 pub struct RecordsPlan {
     pub count: usize,
     pub first: BitCursor,

@@ -1,4 +1,6 @@
 // A payload's row in a lent table, with its ordinal by the rows before it.
+#![tactic(auto)]
+
 ghost use Rattle.std.specs.Prelude.{◌≡◌, ◌+◌, ◌≤◌, ◌<◌, ◌^◌, length, set};
 ghost use Rattle.emdf_records_row.specs.Row.{last_of, row_after};
 

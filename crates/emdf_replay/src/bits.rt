@@ -3,7 +3,7 @@ use crate::list::Outcome;
 use crate::words;
 
 // The number that a call returned, or that the line names none.
-#[derive(Drop)]
+#[derive(Clone, Copy)]
 enum CallAnswer {
     Returned(u32),
     Bad,

@@ -6,28 +6,28 @@ use emdf_text::NumberAnswer;
 use libc::STDOUT_FILENO;
 
 // A number, where the next one starts, and whether a line end stands between.
-#[derive(Drop)]
+#[derive(Clone, Copy)]
 enum TokenAnswer {
     Token(u64, usize, bool),
     Bad,
 }
 
 // How many numbers a line has, and where the next line starts.
-#[derive(Drop)]
+#[derive(Clone, Copy)]
 pub(crate) enum LineAnswer {
     Line(usize, usize),
     Bad,
 }
 
 // What replaying a case showed.
-#[derive(Drop)]
+#[derive(Clone, Copy)]
 pub(crate) enum Outcome {
     Same,
     Differs,
     Bad,
 }
 
-#[derive(Drop)]
+#[derive(Clone, Copy)]
 pub(crate) struct Tally {
     pub(crate) cases: u64,
     pub(crate) differ: u64,

@@ -1,4 +1,5 @@
 // Replays lists of the Rust original's answers against the calls that a C host has, and counts the cases that differ.
+#![tactic(auto)]
 mod bits;
 mod carriers;
 mod list;
@@ -20,14 +21,14 @@ const MOST_CASE_BYTES: usize = 4096;
 const MOST_NUMBERS: usize = 4108;
 
 // What the cases of a list are.
-#[derive(Drop)]
+#[derive(Clone, Copy)]
 enum ListKind {
     Bits,
     Carriers,
 }
 
 // A line's case: where the next line starts, and whether the answers are the same.
-#[derive(Drop)]
+#[derive(Clone, Copy)]
 enum CaseAnswer {
     Case(usize, bool),
     Bad,

@@ -4,7 +4,7 @@ ghost use Rattle.std.specs.Prelude.{◌<◌, ◌≤◌, length};
 use openjoc_bitio::{BitCursor, BitsAnswer};
 
 // A word of an answer, against the one on the line.
-#[derive(Drop)]
+#[derive(Clone, Copy)]
 enum WordStep {
     Same(BitCursor),
     Differs,

@@ -1,4 +1,5 @@
 // What a request for an edit asks for: its place, the bits that it replaces, and what it brings.
+#![tactic(auto)]
 ghost use Rattle.std.specs.Prelude.{◌≡◌, [], ◌≤◌};
 ghost use Rattle.emdf_format.specs.Contents.{writable_payload};
 ghost use Rattle.emdf_format.specs.Edits.{place_exists};
@@ -8,7 +9,7 @@ ghost use Rattle.emdf_request.specs.Requests.{edit_of, stretch_of, bringing};
 use emdf_format::EmdfPayloadConfig;
 
 // One of the six edits, without the bytes that it brings: a body, or a primary and a secondary protection.
-#[derive(Drop)]
+#[derive(Clone, Copy)]
 pub enum Request {
     Body(usize),
     Settings(usize, EmdfPayloadConfig),
@@ -20,7 +21,7 @@ pub enum Request {
 
 // The edges of a container's parts: its key id, its first payload, the parts of the payload at one place, the codes of its
 // protections, and these.
-#[derive(Drop)]
+#[derive(Clone, Copy)]
 pub enum Edge {
     Key,
     First,
@@ -35,7 +36,7 @@ pub enum Edge {
 
 // The bits that a request replaces: those between two edges, with the payload at a place. The ones after them are kept up to a
 // third edge, and then cleared.
-#[derive(Drop)]
+#[derive(Clone, Copy)]
 pub struct Stretch {
     pub place: usize,
     pub from: Edge,
@@ -44,7 +45,7 @@ pub struct Stretch {
 }
 
 // What a request brings: whether it can be written, how many bits of fields it is, and how many whole octets.
-#[derive(Drop)]
+#[derive(Clone, Copy)]
 pub struct Brought {
     pub writable: bool,
     pub fields: usize,

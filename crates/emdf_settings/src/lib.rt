@@ -1,4 +1,5 @@
 // The settings of a payload: which of them the rule wants, and settings read field by field.
+#![tactic(auto)]
 ghost use Rattle.std.specs.Prelude.{◌≡◌, ◌≤◌, if◌then◌else◌};
 ghost use Rattle.emdf_format.specs.Contents.{is_present, is_one, has_aligned, has_priority};
 ghost use Rattle.emdf_format.specs.Reader.{bits, variable_bits, present, flagged};
@@ -13,14 +14,14 @@ use emdf_format::{
 use openjoc_bitio::BitCursor;
 
 // What a setting that may be absent answers.
-#[derive(Drop)]
+#[derive(Clone, Copy)]
 enum OptionalAnswer {
     Value(Optional, BitCursor),
     Refused(EmdfError),
 }
 
 // What a payload's settings answer.
-#[derive(Drop)]
+#[derive(Clone, Copy)]
 pub enum ConfigAnswer {
     Config(EmdfPayloadConfig, BitCursor),
     Refused(EmdfError),

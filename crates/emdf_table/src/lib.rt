@@ -1,4 +1,6 @@
 // A reading into a table that is handed back by value: for callers who hold none.
+#![tactic(auto)]
+
 ghost use Rattle.std.specs.Prelude.{◌≡◌, ◌≤◌, replicate};
 ghost use Rattle.emdf_format.specs.Reading.{reading};
 ghost use Rattle.emdf_format.specs.Calls.{in_table, table_after};

@@ -1,4 +1,5 @@
 // Text, as the programs read and write it: decimal numbers in it, and lines in a buffer.
+#![tactic(auto)]
 mod lines;
 
 ghost use Rattle.std.specs.Prelude.{◌≡◌, drop};
@@ -6,7 +7,7 @@ ghost use Rattle.emdf_text.specs.Text.{digit, digit_step, scan, decimal_at};
 
 pub use lines::{put_decimal, put_line};
 
-#[derive(Drop)]
+#[derive(Clone, Copy)]
 pub enum NumberAnswer {
     // The number, and the index past its last digit.
     Number(u64, usize),
@@ -15,7 +16,7 @@ pub enum NumberAnswer {
 }
 
 // What a byte does to the number that the digits before it make.
-#[derive(Drop)]
+#[derive(Clone, Copy)]
 enum DigitStep {
     Next(u64),
     End,

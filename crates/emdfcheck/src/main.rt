@@ -1,5 +1,6 @@
 // Prints what carrier standard input is: its class and, of a carrier that is read, each payload's id and where its parts
 // stand. The lines are the scope's.
+#![tactic(auto)]
 ghost use Rattle.std.specs.Prelude.{◌+◌, ◌≤◌, ◌≡◌, length, take};
 ghost use Rattle.io.specs.Counts.{IsPrefixLen};
 ghost use Rattle.emdf_format.specs.Reading.{reading, refusal};

@@ -6,7 +6,6 @@ use mathlib.Core.Option.{Option, none, some}
 use Prim.Native.Nat.{ℕ, zero, suc, ◌+◌, ◌≤◌}
 use native.Mathlib.Omega.{arith}
 use lib.Dec.{eqb}
-use types.Run.{OneOf, miss}
 use denote.Enum.Declared.{tag_of}
 use borrow.Author.Tests.{ne_eqb}
 use Rattle.std.specs.Prelude.{if◌then◌else◌}
@@ -116,7 +115,7 @@ seen-agrees id k (x ∷ xs) = go (eqb x.record_of.id id) (seen-agrees id (k + 1)
 
 -- the match took another arm than One's
 abbrev NotOne : Seen → Type 0
-NotOne o = OneOf (0 ∷ 2 ∷ []) (tag_of seen-type.the_type o)
+NotOne o = (p : PlacedConfig) → o ≡ One p → ⊥
 
 module _ (profile : JocValidationProfile) (most : ℕ) (o j : Seen) where
   abbrev counts : JocProfileAnswer
@@ -129,7 +128,7 @@ module _ (profile : JocValidationProfile) (most : ℕ) (o j : Seen) where
     where
       go : (x : Seen) → NotOne x → counts ≡ judged profile most (placed_of x) (placed_of j) counts
       go Nothing f = refl
-      go (One p) f = absurd (miss (0 ∷ 2 ∷ []) 1 tt f)
+      go (One p) f = absurd (f p refl)
       go (Several k) f = refl
 
   pub joc-missing : {m n : ℕ} {p : PlacedConfig} → o ≡ One p → NotOne j → m ≡ count_of o → n ≡ count_of j → JocProfileAnswer.Refused (PayloadCount m n) ≡ judged_pair profile most o j
@@ -138,7 +137,7 @@ module _ (profile : JocValidationProfile) (most : ℕ) (o j : Seen) where
     where
       go : (x : Seen) → NotOne x → counts ≡ judged profile most (some p) (placed_of x) counts
       go Nothing f = refl
-      go (One q) f = absurd (miss (0 ∷ 2 ∷ []) 1 tt f)
+      go (One q) f = absurd (f q refl)
       go (Several k) f = refl
 
   pub both-there : {r : JocProfileAnswer} {p q : PlacedConfig} → o ≡ One p → j ≡ One q → r ≡ judge profile most p q → r ≡ judged_pair profile most o j

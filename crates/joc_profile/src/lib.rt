@@ -1,4 +1,5 @@
 // The verdict on a carrier: TS 103 420 tables 55 and 56 as the original has them, by a strict and by a compatible policy.
+#![tactic(auto)]
 ghost use Rattle.std.specs.Prelude.{◌≡◌, List, ◌+◌, ◌≤◌, ◌<◌, ◌^◌, take, drop};
 ghost use Rattle.openjoc_bitio.specs.declared.BitCursor.{BitCursor};
 ghost use Rattle.emdf_format.specs.Reading.{Found};
@@ -19,7 +20,7 @@ use openjoc_bitio::BitCursor;
 use openjoc_emdf::OpenAnswer;
 
 // The payloads with one id: none, one with its place and its settings, or how many.
-#[derive(Drop)]
+#[derive(Clone, Copy)]
 enum Seen {
     Nothing,
     One(PlacedConfig),
@@ -27,7 +28,7 @@ enum Seen {
 }
 
 // The payloads with the two ids of table 55.
-#[derive(Drop)]
+#[derive(Clone, Copy)]
 enum PairAnswer {
     Pair(Seen, Seen),
     Refused(EmdfError),

@@ -1,49 +1,50 @@
 // A reader that holds its bytes: the Rust's BitReader, over the cursor of openjoc_bitio.
+#![tactic(auto)]
 ghost use Rattle.std.specs.Prelude.{◌≡◌};
 ghost use Rattle.openjoc_bit_reader.specs.Reader.{bits_step, bit_step, window_step, align_step, opened, reader_at, reader_remaining, bits_read, bit_read, window_taken, window, aligned};
 
 use openjoc_bitio::{AlignAnswer, BitAnswer, BitCursor, BitError, BitsAnswer, WindowAnswer};
 
 // The Rust's Result of each reading call, and of the two that only move.
-#[derive(Drop)]
+#[derive(Clone, Copy)]
 pub enum BitsResult {
     Ok(u64),
     Err(BitError),
 }
 
-#[derive(Drop)]
+#[derive(Clone, Copy)]
 pub enum BitResult {
     Ok(bool),
     Err(BitError),
 }
 
-#[derive(Drop)]
+#[derive(Clone, Copy)]
 pub enum MoveResult {
     Ok,
     Err(BitError),
 }
 
 // A result beside the cursor after the call, which a refusal leaves as it was: what a reader's method stores and returns.
-#[derive(Drop)]
+#[derive(Clone, Copy)]
 pub struct BitsStep {
     pub result: BitsResult,
     pub cursor: BitCursor,
 }
 
-#[derive(Drop)]
+#[derive(Clone, Copy)]
 pub struct BitStep {
     pub result: BitResult,
     pub cursor: BitCursor,
 }
 
-#[derive(Drop)]
+#[derive(Clone, Copy)]
 pub struct WindowStep {
     pub result: MoveResult,
     pub window: BitCursor,
     pub cursor: BitCursor,
 }
 
-#[derive(Drop)]
+#[derive(Clone, Copy)]
 pub struct AlignStep {
     pub result: MoveResult,
     pub cursor: BitCursor,
@@ -120,7 +121,7 @@ fn align_step(s: &[u8], c: BitCursor) -> AlignStep
 }
 
 // A reader that holds the caller's bytes: the Rust's calls, each of one call at its cursor.
-#[derive(Drop)]
+#[derive(Clone, Copy)]
 pub struct BitReader<'a> {
     pub bytes: &'a [u8],
     pub cursor: BitCursor,
@@ -128,7 +129,7 @@ pub struct BitReader<'a> {
 
 // What take_bits hands back. No enum holds a reference, so the reader stands beside the result: an empty one where the
 // window is refused.
-#[derive(Drop)]
+#[derive(Clone, Copy)]
 pub struct BitWindow<'a> {
     pub reader: BitReader<'a>,
     pub result: MoveResult,

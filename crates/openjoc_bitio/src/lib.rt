@@ -1,18 +1,19 @@
 // Checked, most-significant-bit-first reading of a bounded bit slice: the port of openjoc-bitio.
+#![tactic(auto)]
 ghost use Rattle.std.specs.Prelude.{◌≡◌, min, ◌+◌, ◌-◌, ◌*◌, ◌/◌, ◌%◌, ◌^◌, ◌<◌, ◌≤◌, length};
 ghost use Rattle.openjoc_bitio.specs.Bits.{bit_at, bits_value, window_at, swap_four, swap_octets};
 ghost use Rattle.openjoc_bitio.specs.Cursor.{bit_length, whole_slice, bits_remaining, read_bits, read_bit, take_bits, byte_align};
 
 // A bit's place in a carrier, counted from the carrier's first bit.
-#[derive(Drop)]
+#[derive(Clone, Copy)]
 pub struct BitOffset(pub usize);
 
 // A number of bytes.
-#[derive(Drop)]
+#[derive(Clone, Copy)]
 pub struct ByteCount(pub usize);
 
 // Why a read is refused. The Rust's third case, LengthOverflow, can't arise: docs/DIFFERENCES.md.
-#[derive(Drop)]
+#[derive(Clone, Copy)]
 pub enum BitError {
     // No u64 holds a field of this width.
     InvalidWidth { width: u8 },
@@ -22,35 +23,35 @@ pub enum BitError {
 
 // A place in a slice that the caller holds. Both count bits from the slice's first: the next one to read, and the one
 // past the last. Any two numbers are a cursor: one that doesn't lie in the slice has no bits left.
-#[derive(Drop)]
+#[derive(Clone, Copy)]
 pub struct BitCursor {
     pub position: usize,
     pub end: usize,
 }
 
 // What read_bits answers: the value and the cursor past it.
-#[derive(Drop)]
+#[derive(Clone, Copy)]
 pub enum BitsAnswer {
     Value(u64, BitCursor),
     Refused(BitError),
 }
 
 // What read_bit answers.
-#[derive(Drop)]
+#[derive(Clone, Copy)]
 pub enum BitAnswer {
     Bit(bool, BitCursor),
     Refused(BitError),
 }
 
 // What take_bits answers: the window, and the cursor past it.
-#[derive(Drop)]
+#[derive(Clone, Copy)]
 pub enum WindowAnswer {
     Window(BitCursor, BitCursor),
     Refused(BitError),
 }
 
 // What byte_align answers.
-#[derive(Drop)]
+#[derive(Clone, Copy)]
 pub enum AlignAnswer {
     Aligned(BitCursor),
     Refused(BitError),

@@ -1,5 +1,6 @@
 // Reading carriers, and their class: the port of openjoc-emdf, over its containers. Each function answers what its definition in
 // emdf_format says.
+#![tactic(auto)]
 ghost use Rattle.std.specs.Prelude.{◌≡◌, ◌+◌, ◌-◌, ◌*◌, ◌^◌, ◌≤◌, ◌<◌, length};
 ghost use Rattle.emdf_format.specs.Reading.{reading};
 ghost use Rattle.emdf_format.specs.Calls.{classify};
@@ -11,28 +12,28 @@ use emdf_format::{EmdfError, SYNCWORD, TruncatedPart};
 use openjoc_bitio::{BitCursor, ByteCount};
 
 // A carrier that is read: its container, and the bytes that it takes.
-#[derive(Drop)]
+#[derive(Clone, Copy)]
 pub struct ParsedEmdf {
     pub container: EmdfContainer,
     pub bytes_consumed: ByteCount,
 }
 
 // What reading a carrier answers.
-#[derive(Drop)]
+#[derive(Clone, Copy)]
 pub enum ParseAnswer {
     Parsed(ParsedEmdf),
     Refused(EmdfError),
 }
 
 // A carrier that is read, and the cursor at its first payload, which ends where the container does.
-#[derive(Drop)]
+#[derive(Clone, Copy)]
 pub enum OpenAnswer {
     Open(ParsedEmdf, BitCursor),
     Refused(EmdfError),
 }
 
 // What a range that may be a carrier is.
-#[derive(Drop)]
+#[derive(Clone, Copy)]
 pub enum CarrierClassification {
     // No sync word at its start.
     NonEmdf,

@@ -1,0 +1,25 @@
+use borrow.Author.Rules.{rules}
+use native.Mathlib.Omega.{arith}
+use Rattle.emdf_field_writer.proofs.Putting.{room-same, room-first, room_next, then-put}
+use Rattle.emdf_field_writer.proofs.Settings.{codec-clear, codec-set}
+use Rattle.emdf_field_writer.proofs.put_codec_data.Goals as goal
+
+pub put_field-requires : goal.put_field-requires
+put_field-requires c = (omega arith, room-same _ (codec-clear c.if-flag-eq0.true) c.requires)
+
+pub returns-then-flag-eq0 : goal.returns-then-flag-eq0
+returns-then-flag-eq0 c = rw (codec-clear c.if-flag-eq0.true) c.put_field.ensures
+
+pub put_field-next-requires : goal.put_field-next-requires
+put_field-next-requires c = (omega arith, room-first _ _ _ (room-same _ (codec-set _ c.if-flag-eq0.false) c.requires))
+
+pub put_field-requires-2 : goal.put_field-requires-2
+put_field-requires-2 c =
+    let d = c in
+    let e = d in
+    (omega arith, room_next _ _ _ _ _ (room-same _ (codec-set _ e.if-flag-eq0.false) e.requires) d.put_field-next.ensures d.put_field-next.auto.out)
+
+pub returns : goal.returns
+returns c =
+    let d = c in
+    rw (codec-set _ d.if-flag-eq0.false) (then-put _ _ _ _ _ _ d.put_field-next.ensures c.put_field-2.ensures)

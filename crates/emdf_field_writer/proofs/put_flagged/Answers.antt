@@ -1,0 +1,29 @@
+use borrow.Author.Rules.{rules}
+use native.Mathlib.Omega.{arith}
+use Rattle.emdf_format.specs.Syntax.{variable_field}
+use Rattle.emdf_field_writer.proofs.Putting.{room-same, room-first, room_next, then-put}
+use Rattle.emdf_field_writer.proofs.Settings.{flag-clear, variable-set}
+use Rattle.emdf_field_writer.proofs.put_flagged.Goals as goal
+
+pub put_field-requires : goal.put_field-requires
+put_field-requires c =
+    let a = c in
+    (omega arith, room-same _ (flag-clear (variable_field a.args.width) c.in-Absent.is) a.requires.2)
+
+pub put_field-flag-requires : goal.put_field-flag-requires
+put_field-flag-requires c = (omega arith, room-first _ _ _ (room-same _ (variable-set _ c.in-Present.is) c.requires.2))
+
+pub put_variable-requires : goal.put_variable-requires
+put_variable-requires c =
+    let d = c in
+    let e = d in
+    let p = e.requires in
+    (p.0, p.1, omega arith, room_next _ _ _ _ _ (room-same _ (variable-set _ e.in-Present.is) p.2) d.put_field-flag.ensures d.put_field-flag.auto.out)
+
+pub returns-in-Absent : goal.returns-in-Absent
+returns-in-Absent c = rw (flag-clear (variable_field c.args.width) c.in-Absent.is) c.put_field.ensures
+
+pub returns-in-Present : goal.returns-in-Present
+returns-in-Present c =
+    let d = c in
+    rw (variable-set _ d.in-Present.is) (then-put _ _ _ _ _ _ d.put_field-flag.ensures c.put_variable.ensures)

@@ -1,0 +1,30 @@
+use borrow.Author.Rules.{rules}
+use Prim.Native.Nat.{◌+◌, ◌*◌, ◌%◌, ◌^◌, ◌<◌}
+use native.Mathlib.Omega.{arith}
+use lib.Pow.{pow_pos}
+use Rattle.openjoc_bitio.proofs.Bits.{length-number}
+use Rattle.emdf_field_writer.proofs.Putting.{length-group, group-number, group-small}
+use Rattle.emdf_field_writer.proofs.put_group.Goals as goal
+
+pub nonzero_rem-low : goal.nonzero_rem-low
+nonzero_rem-low c = omega (arith, c.pow2.ensures, pow_pos c.args.width)
+
+pub overflow_mul-low : goal.overflow_mul-low
+overflow_mul-low c =
+    let small : let a = c.args in a.v % c.pow2.result * 2 + a.more < 2 ^ 64 = let e = c in group-small _ _ _ _ c.pow2.ensures e.requires.1 e.requires.0 in
+    omega (arith, small)
+
+pub overflow_add-low : goal.overflow_add-low
+overflow_add-low c =
+    let small : let a = c.args in a.v % c.pow2.result * 2 + a.more < 2 ^ 64 = let e = c in group-small _ _ _ _ c.pow2.ensures e.requires.1 e.requires.0 in
+    omega (arith, small)
+
+pub put_field-requires : goal.put_field-requires
+put_field-requires c =
+    let a = c.args in
+    omega (arith, length-number (a.width + 1) (a.v % c.pow2.result * 2 + a.more), length-group a.width a.v a.more)
+
+pub returns : goal.returns
+returns c =
+    let d = c in
+    rw (← group-number _ _ _ _ d.pow2.ensures d.requires.1) c.put_field.ensures

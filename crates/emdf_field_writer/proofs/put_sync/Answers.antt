@@ -1,0 +1,15 @@
+use borrow.Author.Rules.{rules}
+use native.Mathlib.Omega.{arith}
+use Rattle.emdf_field_writer.proofs.Putting.{length-sync, sync-put}
+use Rattle.emdf_field_writer.proofs.put_sync.Goals as goal
+
+pub put_u16-requires : goal.put_u16-requires
+put_u16-requires c = omega (arith, c.requires.0, length-sync c.args.size.0)
+
+pub put_u16-requires-2 : goal.put_u16-requires-2
+put_u16-requires-2 c =
+    let d = c in
+    omega (arith, d.put_u16.auto.out, d.requires.0, length-sync d.args.size.0)
+
+pub returns : goal.returns
+returns c = sync-put _ _ _ _ c.put_u16.ensures c.put_u16-2.ensures

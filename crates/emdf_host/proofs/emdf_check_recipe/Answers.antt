@@ -1,0 +1,5 @@
+use borrow.Author.Rules.{rules}
+use Rattle.emdf_host.proofs.emdf_check_recipe.Goals as goal
+
+pub returns : goal.returns
+returns c = rw (← c.check_recipe-checked.ensures) c.put_checked.ensures

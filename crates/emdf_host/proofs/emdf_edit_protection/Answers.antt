@@ -1,0 +1,7 @@
+use borrow.Author.Rules.{rules}
+use Rattle.emdf_host.proofs.emdf_edit_protection.Goals as goal
+
+pub returns : goal.returns
+returns c =
+    let m = c.replace_protection-edited.ensures in
+    (rw m.0 at c.put_edited.ensures, m.1)

@@ -1,0 +1,14 @@
+use borrow.Author.Rules.{rules}
+use Prim.Native.Nat.{◌≤◌}
+use mathlib.Core.Path.{◌≡◌, refl, sym, ◌∙◌}
+use native.Mathlib.Omega.{arith}
+use Rattle.openjoc_bitio.specs.Cursor.{bits_remaining}
+use Rattle.emdf_format.specs.Reading.{payloads}
+use Rattle.emdf_payload_list.proofs.Counting.{count_from, count-all, at-end, at-refused, at-payload, count_past, count-end, count-refused}
+use Rattle.emdf_payload_list.proofs.count_payloads.Given as goal
+
+abbrev pub invariant-loop-most : goal.invariant-loop-most
+invariant-loop-most l = (l.count ≤ l.at.position) × (count_from l.count l.groups l.at.end (payloads (bits_remaining l.s l.at) l.s l.at.end l.at.position) ≡ count_from 0 0 l.initial.at.end (payloads (bits_remaining l.s l.initial.at) l.s l.initial.at.end l.initial.at.position))
+
+abbrev pub decreases-loop-most : goal.decreases-loop-most
+decreases-loop-most l = bits_remaining l.s l.at

@@ -1,0 +1,5 @@
+use borrow.Author.Rules.{rules}
+use Rattle.emdf_recipe_bytes.proofs.checked_figures.Goals as goal
+
+pub returns-in-Edits : goal.returns-in-Edits
+returns-in-Edits c = rw c.in-Edits.is

@@ -1,0 +1,5 @@
+use borrow.Author.Rules.{rules}
+use Rattle.emdf_refusals.proofs.records_refusal.Goals as goal
+
+pub returns-in-TableTooShort : goal.returns-in-TableTooShort
+returns-in-TableTooShort c = rw c.in-TableTooShort.is

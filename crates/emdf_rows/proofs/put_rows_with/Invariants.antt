@@ -1,0 +1,23 @@
+use borrow.Author.Rules.{rules}
+use Prim.Native.Nat.{◌-◌, ◌≤◌}
+use mathlib.Core.Path.{◌≡◌, refl}
+use mathlib.Core.List.{List}
+use native.Mathlib.Omega.{arith}
+use lib.ListN.{length}
+use lib.Seq.{sets}
+use Rattle.emdf_format.specs.Reading.{Found}
+use Rattle.emdf_format.specs.Ordinals.{ids_in, rows_of}
+use Rattle.emdf_format.proofs.Ordinals.{length-ids-in}
+use Rattle.emdf_payloads.specs.Payloads.{Listed}
+use Rattle.emdf_answers.specs.Carriers.{rows_bytes}
+use Rattle.emdf_rows.proofs.Rows.{Left, left-all, left-searchable, left-payload, left_step, left-none}
+use Rattle.emdf_rows.proofs.put_rows_with.Given as goal
+
+abbrev pub invariant-loop-place : goal.invariant-loop-place
+invariant-loop-place l = (l.place ≤ l.count)
+    × (length l.table ≡ length l.initial.table)
+    × (length l.slots ≡ length l.initial.slots)
+    × ((xs : List Found) → Listed l.s l.initial.at xs → length xs ≡ l.count → Left l.s l.at (ids_in xs) l.place l.count l.table l.slots (sets l.initial.table 0 (rows_bytes (rows_of xs))))
+
+abbrev pub decreases-loop-place : goal.decreases-loop-place
+decreases-loop-place l = l.count - l.place

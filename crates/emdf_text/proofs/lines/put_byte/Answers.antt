@@ -1,0 +1,6 @@
+use borrow.Author.Rules.{rules}
+use Rattle.emdf_text.proofs.Put.{one_byte}
+use Rattle.emdf_text.proofs.lines.put_byte.Goals as goal
+
+pub returns : goal.returns
+returns c = one_byte _ _ _ c.requires

@@ -1,0 +1,6 @@
+use borrow.Author.Rules.{rules}
+use Rattle.emdf_writer.proofs.Stored.{u16-stored}
+use Rattle.emdf_writer.proofs.put_u16.Goals as goal
+
+pub returns : goal.returns
+returns c = u16-stored _ _ _ c.requires

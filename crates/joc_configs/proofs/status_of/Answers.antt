@@ -1,0 +1,11 @@
+use borrow.Author.Tests.{eq-eqb, ne_eqb}
+use Rattle.emdf_format.specs.Profile.{status}
+use Rattle.joc_configs.proofs.status_of.Goals as goal
+
+pub returns-then-count-eq0 : goal.returns-then-count-eq0
+unfolding status
+returns-then-count-eq0 c = rw (eq-eqb _ _ c.if-count-eq0.true)
+
+pub returns : goal.returns
+unfolding status
+returns c = rw (ne_eqb _ _ c.if-count-eq0.false)

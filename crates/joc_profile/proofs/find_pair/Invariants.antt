@@ -1,0 +1,22 @@
+use borrow.Author.Rules.{rules}
+use Prim.Native.Nat.{◌≤◌}
+use mathlib.Core.Path.{sym, ◌∙◌}
+use mathlib.Core.List.{List}
+use native.Mathlib.Omega.{arith}
+use Rattle.openjoc_bitio.specs.Cursor.{bits_remaining}
+use Rattle.emdf_format.specs.Reading.{Found}
+use Rattle.emdf_payloads.proofs.Turns.{at-payload}
+use Rattle.emdf_payloads.specs.Payloads.{Listed}
+use Rattle.emdf_payloads.proofs.Walk.{step-refused, skip-past, skip-end, skip-refused}
+use Rattle.joc_profile.specs.Pair.{count_of}
+use Rattle.joc_profile.proofs.Pair.{none_seen, count_next, Same, same_start, same_next, same_end}
+use Rattle.joc_profile.proofs.find_pair.Given as goal
+
+abbrev pub invariant-loop-id : goal.invariant-loop-id
+invariant-loop-id l = (l.place ≤ l.at.position)
+    × (count_of l.oamd ≤ l.place)
+    × (count_of l.joc ≤ l.place)
+    × ((xs : List Found) → Listed l.s l.initial.at xs → Same l.s l.at l.oamd l.joc l.place xs)
+
+abbrev pub decreases-loop-id : goal.decreases-loop-id
+decreases-loop-id l = bits_remaining l.s l.at

@@ -1,4 +1,0 @@
-pub mod Held
-pub mod Returned
-pub mod Stepped
-pub mod Walk

@@ -1,0 +1,13 @@
+use Prim.Native.Nat.{ℕ, ◌≤◌, ◌<◌, ◌-◌, ◌*◌, ◌+◌, ◌^◌}
+use mathlib.Core.Path.{◌≡◌, sym}
+use native.Mathlib.Omega.{arith}
+use lib.ListN.{length, get_or}
+use Rattle.openjoc_bitio.specs.Bits.{bits_value}
+use Rattle.openjoc_bitio.proofs.Bits.{value_none, value-within, value-bytes}
+use Rattle.openjoc_bitio.proofs.few_octets.Given as goal
+
+abbrev pub invariant-loop-k : goal.invariant-loop-k
+invariant-loop-k l = (l.i ≤ l.k) × (l.k ≤ length l.s) × (l.value ≡ bits_value l.s (l.i * 8) ((l.k - l.i) * 8))
+
+abbrev pub decreases-loop-k : goal.decreases-loop-k
+decreases-loop-k l = length l.s - l.k

@@ -1,3 +1,0 @@
-mod Loan
-mod Local
-mod Called
