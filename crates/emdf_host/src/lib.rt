@@ -1,4 +1,4 @@
-// What a C host calls: exported functions on numbers and byte slices. docs/HOST.md has each byte form.
+// What a host calls: functions on numbers and byte slices, which emdf_host_c exports to C. docs/HOST.md has each byte form.
 #![tactic(auto)]
 ghost use Rattle.std.specs.Prelude.{◌≡◌};
 ghost use Rattle.emdf_format.specs.Reading.{reading};
@@ -23,22 +23,19 @@ use openjoc_bitio::BitCursor;
 use openjoc_emdf::OpenAnswer;
 
 // The version of what the calls take and answer; include/emdf.h has the same number.
-#[unsafe(no_mangle)]
-pub extern "C" fn emdf_version() -> u32
+pub fn emdf_version() -> u32
     ensures { result ≡ version }
 {
     5
 }
 
-#[unsafe(no_mangle)]
-pub extern "C" fn emdf_bit_cursor(bytes: &[u8], answer: &mut [u8; 48]) -> u32
+pub fn emdf_bit_cursor(bytes: &[u8], answer: &mut [u8; 48]) -> u32
     ensures { BitReplies (new_reply bytes.now) result answer.new }
 {
     emdf_rows::put_reply(answer, emdf_answers::accepted_at(BitCursor::new(bytes), 0))
 }
 
-#[unsafe(no_mangle)]
-pub extern "C" fn emdf_bits_remaining(
+pub fn emdf_bits_remaining(
     bytes: &[u8],
     position: usize,
     end: usize,
@@ -51,8 +48,7 @@ pub extern "C" fn emdf_bits_remaining(
     emdf_rows::put_reply(answer, emdf_answers::accepted_at(cursor, remaining as u64))
 }
 
-#[unsafe(no_mangle)]
-pub extern "C" fn emdf_read_bits(
+pub fn emdf_read_bits(
     bytes: &[u8],
     position: usize,
     end: usize,
@@ -68,8 +64,7 @@ pub extern "C" fn emdf_read_bits(
     )
 }
 
-#[unsafe(no_mangle)]
-pub extern "C" fn emdf_read_bit(
+pub fn emdf_read_bit(
     bytes: &[u8],
     position: usize,
     end: usize,
@@ -84,8 +79,7 @@ pub extern "C" fn emdf_read_bit(
     )
 }
 
-#[unsafe(no_mangle)]
-pub extern "C" fn emdf_take_bits(
+pub fn emdf_take_bits(
     bytes: &[u8],
     position: usize,
     end: usize,
@@ -101,8 +95,7 @@ pub extern "C" fn emdf_take_bits(
     )
 }
 
-#[unsafe(no_mangle)]
-pub extern "C" fn emdf_byte_align(
+pub fn emdf_byte_align(
     bytes: &[u8],
     position: usize,
     end: usize,
@@ -118,8 +111,7 @@ pub extern "C" fn emdf_byte_align(
 }
 
 // A variable field and its groups, with the cursor after it, also where it is refused.
-#[unsafe(no_mangle)]
-pub extern "C" fn emdf_variable_bits(
+pub fn emdf_variable_bits(
     bytes: &[u8],
     position: usize,
     end: usize,
@@ -137,8 +129,7 @@ pub extern "C" fn emdf_variable_bits(
 }
 
 // What a range of bytes is.
-#[unsafe(no_mangle)]
-pub extern "C" fn emdf_classify(bytes: &[u8], answer: &mut [u8; 88]) -> u32
+pub fn emdf_classify(bytes: &[u8], answer: &mut [u8; 88]) -> u32
     ensures { Replies (class_reply (class_answer (classify bytes.now))) result answer.new }
 {
     let class = openjoc_emdf::classify_emdf_carrier(bytes);
@@ -148,8 +139,7 @@ pub extern "C" fn emdf_classify(bytes: &[u8], answer: &mut [u8; 88]) -> u32
 }
 
 // Reads the carrier; a row of 224 bytes a payload goes into the table.
-#[unsafe(no_mangle)]
-pub extern "C" fn emdf_read(bytes: &[u8], table: &mut [u8], answer: &mut [u8; 80]) -> u32
+pub fn emdf_read(bytes: &[u8], table: &mut [u8], answer: &mut [u8; 80]) -> u32
     ensures { ReadReplies (read_into bytes.now table.old) result answer.new table.old table.new }
 {
     let a = openjoc_emdf::open_carrier(bytes);
@@ -171,8 +161,7 @@ pub extern "C" fn emdf_read(bytes: &[u8], table: &mut [u8], answer: &mut [u8; 80
 }
 
 // The place of the payload with an id and an ordinal.
-#[unsafe(no_mangle)]
-pub extern "C" fn emdf_find_payload(
+pub fn emdf_find_payload(
     bytes: &[u8],
     id: u64,
     ordinal: u64,
@@ -185,8 +174,7 @@ pub extern "C" fn emdf_find_payload(
 }
 
 // Moves the body of a payload to the scratch, unless it starts on a byte of the carrier.
-#[unsafe(no_mangle)]
-pub extern "C" fn emdf_move_body(
+pub fn emdf_move_body(
     bytes: &[u8],
     place: usize,
     scratch: &mut [u8],
@@ -199,8 +187,7 @@ pub extern "C" fn emdf_move_body(
 }
 
 // The verdict on the carrier: profile 0 is strict, any other number compat.
-#[unsafe(no_mangle)]
-pub extern "C" fn emdf_verdict(bytes: &[u8], profile: u32, answer: &mut [u8; 40]) -> u32
+pub fn emdf_verdict(bytes: &[u8], profile: u32, answer: &mut [u8; 40]) -> u32
     ensures { Replies (verdict_reply (verdict (profile_of profile) bytes.now)) result answer.new }
 {
     let judged = joc_profile::validate_joc_profile_for(bytes, emdf_answers::profile_of(profile));
@@ -210,8 +197,7 @@ pub extern "C" fn emdf_verdict(bytes: &[u8], profile: u32, answer: &mut [u8; 40]
 }
 
 // The source with another body at place, into the destination, as with the other edits.
-#[unsafe(no_mangle)]
-pub extern "C" fn emdf_edit_body(
+pub fn emdf_edit_body(
     source: &[u8],
     place: usize,
     body: &[u8],
@@ -225,8 +211,7 @@ pub extern "C" fn emdf_edit_body(
 }
 
 // Other settings at place: 144 bytes, as in a row of emdf_read.
-#[unsafe(no_mangle)]
-pub extern "C" fn emdf_edit_settings(
+pub fn emdf_edit_settings(
     source: &[u8],
     place: usize,
     settings: &[u8],
@@ -241,8 +226,7 @@ pub extern "C" fn emdf_edit_settings(
 }
 
 // Without the payload at place.
-#[unsafe(no_mangle)]
-pub extern "C" fn emdf_edit_drop(
+pub fn emdf_edit_drop(
     source: &[u8],
     place: usize,
     destination: &mut [u8],
@@ -255,8 +239,7 @@ pub extern "C" fn emdf_edit_drop(
 }
 
 // A payload more, before place.
-#[unsafe(no_mangle)]
-pub extern "C" fn emdf_edit_insert(
+pub fn emdf_edit_insert(
     source: &[u8],
     place: usize,
     id: u64,
@@ -273,8 +256,7 @@ pub extern "C" fn emdf_edit_insert(
 }
 
 // Another key id.
-#[unsafe(no_mangle)]
-pub extern "C" fn emdf_edit_key(
+pub fn emdf_edit_key(
     source: &[u8],
     key: u64,
     destination: &mut [u8],
@@ -287,8 +269,7 @@ pub extern "C" fn emdf_edit_key(
 }
 
 // Other protections.
-#[unsafe(no_mangle)]
-pub extern "C" fn emdf_edit_protection(
+pub fn emdf_edit_protection(
     source: &[u8],
     primary: &[u8],
     secondary: &[u8],
@@ -302,8 +283,7 @@ pub extern "C" fn emdf_edit_protection(
 }
 
 // The carrier of a key id and protections, without payloads.
-#[unsafe(no_mangle)]
-pub extern "C" fn emdf_blank(
+pub fn emdf_blank(
     key: u64,
     primary: &[u8],
     secondary: &[u8],
@@ -317,8 +297,7 @@ pub extern "C" fn emdf_blank(
 }
 
 // Whether a file is a recipe, and of how many edits.
-#[unsafe(no_mangle)]
-pub extern "C" fn emdf_check_recipe(recipe: &[u8], answer: &mut [u8; 16]) -> u32
+pub fn emdf_check_recipe(recipe: &[u8], answer: &mut [u8; 16]) -> u32
     ensures { Replies (two_reply (checked_figures (check_answer (recipe_of recipe.now)))) result answer.new }
 {
     let checked = emdf_recipe::check_recipe(recipe);
@@ -326,8 +305,7 @@ pub extern "C" fn emdf_check_recipe(recipe: &[u8], answer: &mut [u8; 16]) -> u32
 }
 
 // The edits of a recipe, one after another from the source on, in the two buffers by turns.
-#[unsafe(no_mangle)]
-pub extern "C" fn emdf_run_recipe(
+pub fn emdf_run_recipe(
     source: &[u8],
     recipe: &[u8],
     first: &mut [u8],
