@@ -12,14 +12,11 @@ use Rattle.emdf_format.specs.declared.EmdfPayloadBitTrace.{EmdfPayloadBitTrace}
 use Rattle.emdf_format.specs.declared.PayloadRecord.{PayloadRecord}
 use Rattle.emdf_format.specs.declared.PayloadRow.{PayloadRow}
 use Rattle.emdf_format.specs.declared.BodyAnswer.{BodyAnswer}
-use Rattle.emdf_format.specs.declared.BodyAnswer.TheVariants as BodyAnswer
 use Rattle.emdf_format.specs.declared.FindAnswer.{FindAnswer}
-use Rattle.emdf_format.specs.declared.FindAnswer.TheVariants as FindAnswer
 use Rattle.openjoc_emdf.specs.Answers.{parsed_emdf}
 use Rattle.emdf_container.specs.declared.ProtectionBytes.{ProtectionBytes}
 use Rattle.openjoc_emdf.specs.declared.ParsedEmdf.{ParsedEmdf}
 use Rattle.openjoc_emdf.specs.declared.CarrierClassification.{CarrierClassification}
-use Rattle.openjoc_emdf.specs.declared.CarrierClassification.TheVariants as CarrierClassification
 use Rattle.emdf_answers.specs.Form.{row_bytes, words}
 use Rattle.emdf_answers.specs.Replies.{Reply, padded, accepted_reply, refused_reply, two_reply, Replies}
 

@@ -1,5 +1,6 @@
 // The answers to a C host as numbers. docs/HOST.md has each byte form.
 #![tactic(auto)]
+
 ghost use Rattle.std.specs.Prelude.{◌≡◌, [], ◌∷◌, length, get_or};
 ghost use Rattle.emdf_format.specs.declared.Figures.{Figures};
 ghost use Rattle.emdf_answers.specs.Bits.{accepted, refused_at, bits_reply, bit_reply, window_reply, align_reply, figures_at};

@@ -1,10 +1,10 @@
 -- The blank carrier: its bits in the order of writing, and what the call answers. Assumes nothing.
 use mathlib.Core.Path.{◌≡◌, refl, sym, ap, ◌∙◌, subst}
 use mathlib.Core.Bool.{Bool, true, false}
-use mathlib.Core.List.{List, [], ◌∷◌, ◌++◌, append-nil}
+use mathlib.Core.List.{List, ◌++◌}
 use Prim.Native.Nat.{ℕ, zero, suc, ◌+◌, ◌-◌, ◌*◌, ◌^◌, ◌<◌, ◌≤◌}
 use native.Mathlib.Omega.{arith}
-use lib.ListN.{length, take, drop}
+use lib.ListN.{length, drop}
 use lib.Seq.{take_at}
 use lib.Dec.{T, leb, eqb→eq, ltb→lt, lit<}
 use borrow.Author.Tests.{lt-ltb, le-leb, lt-leb}
@@ -16,13 +16,13 @@ use Rattle.emdf_format.specs.declared.EditError.{EditError}
 use Rattle.emdf_format.specs.declared.EditError.TheVariants.{NotWritable, DestinationTooShort}
 use Rattle.emdf_format.specs.declared.EditAnswer.{EditAnswer}
 use Rattle.emdf_format.specs.declared.EditAnswer.TheVariants.{Written, Refused}
-use Rattle.emdf_format.specs.Syntax.{◌⨟◌, extended_field, octet_bits}
+use Rattle.emdf_format.specs.Syntax.{◌⨟◌, extended_field}
 use Rattle.emdf_format.specs.Contents.{Contents, ◌&◌, protection_length, protection_code, codable, writable, writable_payloads, contents_are_bytes, bodies_are_bytes, needed_bits, needed_payloads, declared, payloads_bits, protection_bits, container_bits, carrier_bits, carrier}
 use Rattle.emdf_format.specs.Edits.{Bytes, Stepped, changed, unchanged, carrier_length, in_room, step_answer, written, blank_contents, blank, Gives, ReadsAs, BlankReads}
 use Rattle.emdf_format.proofs.Standing.{T_of, length-then, both, and}
 use Rattle.emdf_format.proofs.Bytes.{declared-is, length-carrier}
 use Rattle.emdf_format.proofs.Lists.{Carries, reads_as, all-bytes}
-use Rattle.emdf_format.proofs.Splice.{⨟-assoc, written-bytes}
+use Rattle.emdf_format.proofs.Splice.{⨟-assoc}
 use Rattle.emdf_measure.specs.Parts.{writable_protection}
 use Rattle.emdf_measure.proofs.Asked.{extension-few}
 use Rattle.emdf_field_writer.specs.Fields.{sync_bits, header_bits}

@@ -1,5 +1,6 @@
 // The blank carrier: a key id and protections, without payloads.
 #![tactic(auto)]
+
 ghost use Rattle.std.specs.Prelude.{◌≡◌, ◌+◌, ◌<◌, ◌≤◌, length};
 ghost use Rattle.emdf_format.specs.Contents.{carrier_bits, declared};
 ghost use Rattle.emdf_format.specs.Edits.{blank_contents, blank, Gives};

@@ -6,7 +6,6 @@ use Rattle.emdf_format.specs.Reading.{Found, Reading, accepted, refusal}
 use Rattle.emdf_format.specs.Calls.{body_start}
 use Rattle.emdf_format.specs.declared.BodyError.TheVariants as BodyError
 use Rattle.emdf_format.specs.declared.BodyAnswer.{BodyAnswer}
-use Rattle.emdf_format.specs.declared.BodyAnswer.TheVariants as BodyAnswer
 
 unfoldable pub body_of : Option Found → BodyAnswer
 body_of none = BodyAnswer.Refused BodyError.NoSuchPayload

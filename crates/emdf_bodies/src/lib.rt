@@ -1,5 +1,6 @@
 // The bodies of a carrier's payloads: one that starts on a byte stays where it is, another one is moved to a scratch.
 #![tactic(auto)]
+
 ghost use Rattle.std.specs.Prelude.{◌≡◌, List, ◌-◌, ◌/◌, ◌≤◌};
 ghost use Rattle.std.proofs.Math.ListN.{get_elem?};
 ghost use Rattle.emdf_format.specs.Reading.{Found, reading};

@@ -6,7 +6,7 @@ use Prim.Native.Nat.{ℕ, suc, zero, ◌+◌, ◌-◌, ◌*◌, ◌%◌, ◌^◌
 use native.Mathlib.Omega.{arith}
 use native.Mathlib.Decide.{dec_le}
 use lib.Dec.{leb→le, eqb, lit≤, lit<, eqb→eq}
-use lib.Pow.{low, pow_mono}
+use lib.Pow.{pow_mono}
 use borrow.Author.Tests.{ne_eqb, lt-ltb, le-leb}
 use Rattle.std.specs.Prelude.{if◌then◌else◌}
 use Rattle.openjoc_bitio.specs.Bits.{bits_value}

@@ -1,7 +1,7 @@
 -- Fields that lie in one word of 64 bits, from its top on. Settings are compact where the duration is one group and the
 -- group id one or two, what is reserved is zero, and at most 41 bits stand before discard: then a word holds them with the id before
 -- them. Assumes nothing.
-use Rattle.std.specs.Prelude.{Bool, ◌||◌, ℕ, ◌+◌, ◌-◌, ◌*◌, ◌%◌, ◌^◌, eqb, leb, if◌then◌else◌}
+use Rattle.std.specs.Prelude.{Bool, ◌||◌, ℕ, ◌+◌, ◌*◌, ◌%◌, ◌^◌, eqb, leb, if◌then◌else◌}
 use Rattle.emdf_format.specs.Contents.{◌&◌, is_present, is_one, has_aligned, has_priority}
 use Rattle.emdf_format.specs.declared.Optional.{Optional}
 use Rattle.emdf_format.specs.declared.Optional.TheVariants.{Absent, Present}

@@ -1,5 +1,6 @@
 // Settings and sizes that lie in words of 64 bits, read without a cursor.
 #![tactic(auto)]
+
 ghost use Rattle.std.specs.Prelude.{◌≡◌, ◌≤◌, if◌then◌else◌};
 ghost use Rattle.emdf_compact.specs.Words.{flagged_span, flagged_value, flagged_ends, variable_span, variable_value, variable_ends, codec_span, codec_ends, present_span, present_value, controls_span, compact_controls, compact_config, config_length, grouped_length, grouped_head, size_length, size_value};
 

@@ -12,11 +12,9 @@ use Rattle.emdf_format.specs.declared.EmdfError.{EmdfError}
 use Rattle.emdf_format.proofs.Standing.{bind-go}
 use Rattle.emdf_fields.specs.Fields.{field_answer, field_error}
 use Rattle.emdf_fields.specs.declared.FieldAnswer.{FieldAnswer}
-use Rattle.emdf_fields.specs.declared.FieldAnswer.TheVariants as FieldAnswer
 use Rattle.emdf_container.specs.Container.{protection_bytes, bytes_answer, padding_value, container_answer, bytes_error}
 use Rattle.emdf_container.specs.declared.ProtectionBytes.{ProtectionBytes}
 use Rattle.emdf_container.specs.declared.BytesAnswer.{BytesAnswer}
-use Rattle.emdf_container.specs.declared.BytesAnswer.TheVariants as BytesAnswer
 use Rattle.emdf_container.specs.declared.ContainerAnswer.TheVariants as ContainerAnswer
 use Rattle.emdf_fields.proofs.Answers.{Found, ends}
 

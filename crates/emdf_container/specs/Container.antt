@@ -11,10 +11,8 @@ use Rattle.emdf_format.specs.Groups.{larger, payloads_groups, largest_groups_of}
 use Rattle.emdf_format.specs.declared.EmdfError.{EmdfError}
 use Rattle.emdf_container.specs.declared.ProtectionBytes.{ProtectionBytes}
 use Rattle.emdf_container.specs.declared.BytesAnswer.{BytesAnswer}
-use Rattle.emdf_container.specs.declared.BytesAnswer.TheVariants as BytesAnswer
 use Rattle.emdf_container.specs.declared.EmdfContainer.{EmdfContainer}
 use Rattle.emdf_container.specs.declared.ContainerAnswer.{ContainerAnswer}
-use Rattle.emdf_container.specs.declared.ContainerAnswer.TheVariants as ContainerAnswer
 
 -- ---- protection and padding
 

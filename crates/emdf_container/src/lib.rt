@@ -1,6 +1,7 @@
 // A container: its protection, its end, and all of it after the declared length. Each function answers what its definition in
 // emdf_format says.
 #![tactic(auto)]
+
 ghost use Rattle.std.specs.Prelude.{◌≡◌, true, ◌+◌, ◌-◌, ◌*◌, ◌^◌, ◌≤◌, ◌<◌, List, length};
 ghost use Rattle.emdf_format.specs.Contents.{protection_length};
 ghost use Rattle.emdf_format.specs.Reader.{octets};

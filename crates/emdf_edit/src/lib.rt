@@ -1,5 +1,6 @@
 // The calls that write a carrier into a caller's destination.
 #![tactic(auto)]
+
 ghost use Rattle.std.specs.Prelude.{◌≡◌, ◌+◌, length};
 ghost use Rattle.emdf_format.specs.Edits.{body_edit, settings_edit, drop_edit, insert_edit, key_edit, protection_edit, Called};
 ghost use Rattle.emdf_request.specs.Requests.{edit_of, new_bits};

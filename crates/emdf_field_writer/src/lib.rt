@@ -1,5 +1,6 @@
 // The fields of a carrier, put one after another into a caller's bytes.
 #![tactic(auto)]
+
 ghost use Rattle.std.specs.Prelude.{◌+◌, ◌*◌, ◌^◌, ◌<◌, ◌≤◌, length};
 ghost use Rattle.openjoc_bitio.specs.Bits.{number_bits};
 ghost use Rattle.emdf_format.specs.Syntax.{◌⨟◌, variable_field, extended_field, octet_bits, flagged_field, present_field};

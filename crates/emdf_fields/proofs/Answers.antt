@@ -20,7 +20,6 @@ use Rattle.emdf_fields.specs.declared.FieldAnswer.{FieldAnswer}
 use Rattle.emdf_fields.specs.declared.FieldAnswer.TheVariants.{Value, Refused}
 use Rattle.emdf_fields.specs.declared.VariableAnswer.TheVariants as VariableAnswer
 use Rattle.emdf_fields.specs.declared.CountAnswer.{CountAnswer}
-use Rattle.emdf_fields.specs.declared.CountAnswer.TheVariants as CountAnswer
 
 -- ---- what an answer says of the reading
 

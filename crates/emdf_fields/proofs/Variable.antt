@@ -21,9 +21,7 @@ use Rattle.emdf_format.proofs.Loops.{bits-there}
 use Rattle.emdf_fields.proofs.Word.{word-window, word_low, word-bits}
 use Rattle.emdf_fields.specs.Fields.{Group, last, more, one_group, group_of, group_rest, field_answer, group_answer, group_found, refused_group, start_answer}
 use Rattle.emdf_fields.specs.declared.FieldAnswer.{FieldAnswer}
-use Rattle.emdf_fields.specs.declared.FieldAnswer.TheVariants as FieldAnswer
 use Rattle.emdf_fields.specs.declared.GroupAnswer.{GroupAnswer}
-use Rattle.emdf_fields.specs.declared.GroupAnswer.TheVariants as GroupAnswer
 use Rattle.emdf_fields.specs.declared.StartAnswer.TheVariants.{Start, TooLarge}
 use Rattle.emdf_fields.proofs.Answers.{Found, Ended, field-ended, ends, via, yes as granted, no_more}
 

@@ -5,15 +5,10 @@ use Rattle.emdf_format.specs.Reader.{Read, got, refused, Reader, ◌>>=◌, give
 use Rattle.emdf_format.specs.declared.EmdfError.{EmdfError}
 use Rattle.emdf_format.specs.declared.EmdfError.TheVariants.{VariableBitsGroupLimit, ValueOverflow}
 use Rattle.emdf_fields.specs.declared.FieldAnswer.{FieldAnswer}
-use Rattle.emdf_fields.specs.declared.FieldAnswer.TheVariants as FieldAnswer
 use Rattle.emdf_fields.specs.declared.VariableAnswer.{VariableAnswer}
-use Rattle.emdf_fields.specs.declared.VariableAnswer.TheVariants as VariableAnswer
 use Rattle.emdf_fields.specs.declared.CountAnswer.{CountAnswer}
-use Rattle.emdf_fields.specs.declared.CountAnswer.TheVariants as CountAnswer
 use Rattle.emdf_fields.specs.declared.GroupAnswer.{GroupAnswer}
-use Rattle.emdf_fields.specs.declared.GroupAnswer.TheVariants as GroupAnswer
 use Rattle.emdf_fields.specs.declared.StartAnswer.{StartAnswer}
-use Rattle.emdf_fields.specs.declared.StartAnswer.TheVariants as StartAnswer
 
 unfoldable pub field_answer : ℕ → Read ℕ → FieldAnswer
 field_answer e (got v q) = FieldAnswer.Value v (cursor_at e q)

@@ -1,5 +1,6 @@
 // Fields: bits, variable fields, fields with an escape, octets. Each answers what its reader in emdf_format finds.
 #![tactic(auto)]
+
 ghost use Rattle.std.specs.Prelude.{◌≡◌, ◌+◌, ◌-◌, ◌*◌, ◌^◌, ◌<◌};
 ghost use Rattle.emdf_format.specs.Syntax.{escape as ones};
 ghost use Rattle.emdf_format.specs.Reader.{bits, groups_from, variable_bits, extended_value, octets};

@@ -14,7 +14,7 @@ use Rattle.emdf_format.specs.declared.Optional.{Optional}
 use Rattle.emdf_format.specs.declared.Optional.TheVariants.{Absent, Present}
 use Rattle.emdf_format.specs.Syntax.{◌⨟◌, variable_field, capacity, escape, extended_field, octet_bits, flagged_field, present_field}
 use Rattle.emdf_format.specs.Contents.{◌&◌, iff, is_present, when_present, all_bytes}
-use Rattle.emdf_format.specs.Reader.{got, Reader, bits, variable_bits, extended_value, octets, present, flagged}
+use Rattle.emdf_format.specs.Reader.{got, Reader, variable_bits, extended_value, octets, present, flagged}
 use Rattle.emdf_format.proofs.Standing.{Stands, nil, cons, join, part, Codec, bits-law, bind_inv, bind-go, ask-inv, ask-go, choose-inv, choose-this, choose-that, step, asked, chosen, give-inv, give-go, bit-zero, bit-one, if_yes, if_no, T_of, T-not-of, neqb→ne, ne→neqb, both, and}
 use Rattle.emdf_format.proofs.Variable.{field-sound, field-exact}
 

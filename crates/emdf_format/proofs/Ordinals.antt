@@ -13,8 +13,6 @@ use lib.Seq.{length-take-le, drop-cons, take-suc, take-append_seam, take-append-
 use borrow.Author.Tests.{eq-eqb, eqb-true}
 use Rattle.std.specs.Prelude.{if◌then◌else◌}
 use Rattle.emdf_format.specs.Types.{EmdfPayloadConfig, PayloadRow, FindAnswer, FindError}
-use Rattle.emdf_format.specs.declared.FindError.TheVariants as FindError
-use Rattle.emdf_format.specs.declared.FindAnswer.TheVariants as FindAnswer
 use Rattle.emdf_format.specs.Contents.{Payload, Contents, ◌&◌}
 use Rattle.emdf_format.specs.Reading.{Found, Container, accepted, payloads_of}
 use Rattle.emdf_format.specs.Ordinals.{occurrences, ordinal_at, ids_of, ids_in, rows_from, rows_of, row_ids, find_in, find_payload, Numbered, FindsExactly}

@@ -4,7 +4,7 @@ use mathlib.Core.List.{List, [], ◌∷◌}
 use Prim.Native.Nat.{ℕ, zero, suc, ◌+◌, ◌-◌, ◌*◌, ◌≤◌}
 use native.Mathlib.Omega.{arith}
 use lib.ListN.{length, take}
-use lib.Dec.{T, ltb, ltb→lt}
+use lib.Dec.{T, ltb→lt}
 use Rattle.openjoc_bitio.proofs.Bits.{length-number, value-take}
 use Rattle.emdf_format.specs.Syntax.{extended_field, octet_bits}
 use Rattle.emdf_format.specs.Contents.{all_bytes, bodies_are_bytes, contents_are_bytes, protection_bits}

@@ -5,14 +5,14 @@ use Prim.Native.Nat.{ℕ, zero, suc, ◌+◌, ◌-◌, ◌*◌, ◌/◌, ◌%◌
 use native.Mathlib.Omega.{arith}
 use native.Mathlib.Nat.{add-zero, add-suc, suc-add, zero-add, zero-mul, one-mul, le_refl, suc-mul, mod-lt, mul-le-mul_left, mul-le-mul_right, div-lt_iff_lt-mul}
 use lib.ListN.{length}
-use lib.Dec.{T, leb, ltb, leb→le, ltb→lt, lt→ltb, lit≤}
+use lib.Dec.{T, leb, leb→le, ltb→lt, lt→ltb, lit≤}
 use lib.Pow.{high, low, pow_pos, pow-add, shr_le}
 use lib.Pow.{split as pow-split}
 use Rattle.openjoc_bitio.specs.Bits.{number_bits}
 use Rattle.openjoc_bitio.proofs.Bits.{length-number}
 use Rattle.emdf_format.specs.Syntax.{◌⨟◌, groups_before, variable_field, capacity, count_before, groups}
 use Rattle.emdf_format.specs.Contents.{◌&◌}
-use Rattle.emdf_format.specs.Reader.{got, give, bits, groups_from, variable_bits}
+use Rattle.emdf_format.specs.Reader.{got, give, groups_from, variable_bits}
 use Rattle.emdf_format.proofs.Standing.{Stands, nil, join, parted, bits-law, bind_inv, bind-go, ask-inv, ask-go, choose-inv, choose-this, choose-that, step, asked, chosen, give-inv, bit-zero, bit-one, neqb→ne, both, length-then}
 
 before-zero : (f w : ℕ) → groups_before f w zero ≡ []

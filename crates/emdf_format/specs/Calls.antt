@@ -4,9 +4,6 @@ use Rattle.std.proofs.Math.Option.{Option, none, some}
 use Rattle.std.proofs.Math.ListN.{get_elem?}
 use Rattle.openjoc_bitio.specs.Bits.{bits_value}
 use Rattle.emdf_format.specs.Types.{EmdfError, RecordsError, BodyError, BodyAnswer, PayloadRecord, PayloadRow}
-use Rattle.emdf_format.specs.declared.RecordsError.TheVariants as RecordsError
-use Rattle.emdf_format.specs.declared.BodyError.TheVariants as BodyError
-use Rattle.emdf_format.specs.declared.BodyAnswer.TheVariants as BodyAnswer
 use Rattle.emdf_format.specs.Syntax.{syncword}
 use Rattle.emdf_format.specs.Contents.{◌&◌}
 use Rattle.emdf_format.specs.Reading.{Found, Container, Reading, accepted, refusal, reading}

@@ -4,7 +4,6 @@ use Rattle.std.proofs.Math.Option.{some}
 use Rattle.std.proofs.Math.ListN.{get_elem?}
 use Rattle.emdf_format.specs.Types.{PayloadRow, FindAnswer}
 use Rattle.emdf_format.specs.declared.FindError.TheVariants as FindError
-use Rattle.emdf_format.specs.declared.FindAnswer.TheVariants as FindAnswer
 use Rattle.emdf_format.specs.Contents.{Payload, ◌&◌}
 use Rattle.emdf_format.specs.Reading.{Found, Container, Reading, accepted, refusal, payloads_of}
 

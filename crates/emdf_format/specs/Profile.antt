@@ -6,7 +6,6 @@ use Rattle.emdf_format.specs.Types.{Optional, EmdfPayloadConfig, JocProfileField
 use Rattle.emdf_format.specs.declared.Optional.TheVariants.{Absent, Present}
 use Rattle.emdf_format.specs.declared.JocProfileField.TheVariants.{SampleOffset, Duration, GroupId, CodecDataPresent, DiscardUnknownPayload, PayloadFrameAligned, CreateDuplicate, RemoveDuplicate, Priority, ProcessingAllowed}
 use Rattle.emdf_format.specs.declared.JocRole.TheVariants.{Oamd, Joc}
-use Rattle.emdf_format.specs.declared.JocProfileValue.TheVariants as JocProfileValue
 use Rattle.emdf_format.specs.declared.AllowedDeviation.TheVariants.{Never, Only}
 use Rattle.emdf_format.specs.declared.JocValidationProfile.TheVariants.{EtsiStrict, ObservedVendorCompat}
 use Rattle.emdf_format.specs.declared.JocValidationStatus.TheVariants.{NormativeCompliant, AcceptedWithDeviation}

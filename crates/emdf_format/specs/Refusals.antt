@@ -3,12 +3,6 @@ use Rattle.openjoc_bitio.specs.declared.BitError.TheVariants.{EndOfInput, Invali
 use Rattle.emdf_format.specs.Types.{EmdfError, RecordsError, JocProfileError, BodyError, FindError, EditError, RecipeError, Refusal, Figures}
 use Rattle.emdf_format.specs.declared.TruncatedPart.TheVariants as TruncatedPart
 use Rattle.emdf_format.specs.declared.EmdfError.TheVariants.{TruncatedContainer, InvalidSyncword, Bit, InvalidVariableBits, VariableBitsGroupLimit, ValueOverflow, UnsupportedVersion, NonzeroReservedData, ReservedPrimaryProtectionLength, ExcessPadding, NonzeroPadding}
-use Rattle.emdf_format.specs.declared.RecordsError.TheVariants as RecordsError
-use Rattle.emdf_format.specs.declared.JocProfileError.TheVariants as JocProfileError
-use Rattle.emdf_format.specs.declared.BodyError.TheVariants as BodyError
-use Rattle.emdf_format.specs.declared.FindError.TheVariants as FindError
-use Rattle.emdf_format.specs.declared.EditError.TheVariants as EditError
-use Rattle.emdf_format.specs.declared.RecipeError.TheVariants as RecipeError
 use Rattle.emdf_format.specs.declared.Refusal.TheVariants.{Bare, One, Two}
 
 abbrev pub refusal_of : EmdfError → Refusal

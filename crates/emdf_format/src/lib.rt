@@ -1,6 +1,7 @@
 // The EMDF container of ETSI TS 102 366 Annex H: its constants, and the types that definitions and calls share. The format
 // itself is specs/.
 #![tactic(auto)]
+
 use openjoc_bitio::{BitError, BitOffset, ByteCount};
 
 pub const SYNCWORD: u16 = 0x5838;

@@ -1,5 +1,6 @@
 // What a host calls: functions on numbers and byte slices, which emdf_host_c exports to C. docs/HOST.md has each byte form.
 #![tactic(auto)]
+
 ghost use Rattle.std.specs.Prelude.{◌≡◌};
 ghost use Rattle.emdf_format.specs.Reading.{reading};
 ghost use Rattle.emdf_format.specs.Calls.{classify};
@@ -35,12 +36,7 @@ pub fn emdf_bit_cursor(bytes: &[u8], answer: &mut [u8; 48]) -> u32
     emdf_rows::put_reply(answer, emdf_answers::accepted_at(BitCursor::new(bytes), 0))
 }
 
-pub fn emdf_bits_remaining(
-    bytes: &[u8],
-    position: usize,
-    end: usize,
-    answer: &mut [u8; 48],
-) -> u32
+pub fn emdf_bits_remaining(bytes: &[u8], position: usize, end: usize, answer: &mut [u8; 48]) -> u32
     ensures { BitReplies (remaining_reply bytes.now position end) result answer.new }
 {
     let cursor = BitCursor { position, end };
@@ -64,12 +60,7 @@ pub fn emdf_read_bits(
     )
 }
 
-pub fn emdf_read_bit(
-    bytes: &[u8],
-    position: usize,
-    end: usize,
-    answer: &mut [u8; 48],
-) -> u32
+pub fn emdf_read_bit(bytes: &[u8], position: usize, end: usize, answer: &mut [u8; 48]) -> u32
     ensures { BitReplies (read_bit_reply bytes.now position end) result answer.new }
 {
     let cursor = BitCursor { position, end };
@@ -95,12 +86,7 @@ pub fn emdf_take_bits(
     )
 }
 
-pub fn emdf_byte_align(
-    bytes: &[u8],
-    position: usize,
-    end: usize,
-    answer: &mut [u8; 48],
-) -> u32
+pub fn emdf_byte_align(bytes: &[u8], position: usize, end: usize, answer: &mut [u8; 48]) -> u32
     ensures { BitReplies (byte_align_reply bytes.now position end) result answer.new }
 {
     let cursor = BitCursor { position, end };
@@ -161,12 +147,7 @@ pub fn emdf_read(bytes: &[u8], table: &mut [u8], answer: &mut [u8; 80]) -> u32
 }
 
 // The place of the payload with an id and an ordinal.
-pub fn emdf_find_payload(
-    bytes: &[u8],
-    id: u64,
-    ordinal: u64,
-    answer: &mut [u8; 16],
-) -> u32
+pub fn emdf_find_payload(bytes: &[u8], id: u64, ordinal: u64, answer: &mut [u8; 16]) -> u32
     ensures { Replies (two_reply (find_figures (find_payload id ordinal (reading bytes.now)))) result answer.new }
 {
     let found = emdf_ordinals::find_payload(bytes, id, ordinal);
@@ -174,12 +155,7 @@ pub fn emdf_find_payload(
 }
 
 // Moves the body of a payload to the scratch, unless it starts on a byte of the carrier.
-pub fn emdf_move_body(
-    bytes: &[u8],
-    place: usize,
-    scratch: &mut [u8],
-    answer: &mut [u8; 16],
-) -> u32
+pub fn emdf_move_body(bytes: &[u8], place: usize, scratch: &mut [u8], answer: &mut [u8; 16]) -> u32
     ensures { MoveReplies bytes.now place scratch.old result answer.new scratch.new }
 {
     let moved = emdf_bodies::move_body(bytes, place, scratch);
@@ -256,12 +232,7 @@ pub fn emdf_edit_insert(
 }
 
 // Another key id.
-pub fn emdf_edit_key(
-    source: &[u8],
-    key: u64,
-    destination: &mut [u8],
-    answer: &mut [u8; 16],
-) -> u32
+pub fn emdf_edit_key(source: &[u8], key: u64, destination: &mut [u8], answer: &mut [u8; 16]) -> u32
     ensures { EditReplies (edited (key_edit key) source.now destination.old) result answer.new destination.new }
 {
     let edited = emdf_edit::replace_key(source, key, destination);

@@ -1,5 +1,6 @@
 // What is asked of contents: whether they are writable, how many bits they are written as, and how many groups.
 #![tactic(auto)]
+
 ghost use Rattle.std.specs.Prelude.{◌≡◌, ◌+◌, ◌*◌, ◌≤◌, ◌<◌, leb};
 ghost use Rattle.emdf_format.specs.Syntax.{groups, escape as ones, extended_groups};
 ghost use Rattle.emdf_format.specs.Groups.{larger as largerOf, optional_groups};

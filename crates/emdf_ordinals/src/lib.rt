@@ -1,5 +1,6 @@
 // Which of the payloads of its id a payload is: by the rows before its own, and in a carrier.
 #![tactic(auto)]
+
 ghost use Rattle.std.specs.Prelude.{◌≡◌, List, ◌+◌, ◌*◌, ◌≤◌, ◌<◌, ◌^◌, length};
 ghost use Rattle.emdf_format.specs.Reading.{Found, reading};
 ghost use Rattle.emdf_format.specs.Ordinals.{rows_of, find_in, find_payload};

@@ -12,7 +12,6 @@ use Rattle.emdf_format.specs.declared.EmdfError.{EmdfError}
 use Rattle.emdf_fields.proofs.Answers.{Found, ends}
 use Rattle.emdf_payload_list.specs.List.{list_answer, list_error}
 use Rattle.emdf_payload_list.specs.declared.ListAnswer.{ListAnswer}
-use Rattle.emdf_payload_list.specs.declared.ListAnswer.TheVariants as ListAnswer
 
 pub list-found : (e : ℕ) (x : Read (List Payload)) {n m : ℕ} {c : BitCursor} → list_answer e x ≡ ListAnswer.List n m c
     → (xs : List Payload) × (length xs ≡ n) × (payloads_groups (payloads_of xs) ≡ m) × Found x e xs c

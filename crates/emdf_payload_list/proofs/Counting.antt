@@ -1,6 +1,6 @@
 -- A list of payloads, counted one after another with the largest number of groups. Assumes nothing.
 use mathlib.Core.Path.{◌≡◌, refl, sym, ap, ◌∙◌}
-use mathlib.Core.List.{List, [], ◌∷◌}
+use mathlib.Core.List.{List, ◌∷◌}
 use Prim.Native.Nat.{ℕ, suc, ◌+◌, ◌-◌, ◌≤◌}
 use native.Mathlib.Omega.{arith}
 use native.Mathlib.Nat.{add-zero}
@@ -19,12 +19,10 @@ use Rattle.emdf_format.proofs.Groups.{size-groups, larger-left, larger-zero, lar
 use Rattle.emdf_format.proofs.Loops.{payloads-enough}
 use Rattle.emdf_payloads.specs.Payloads.{found, next_payload, next_answer, record_groups}
 use Rattle.emdf_payloads.specs.declared.PayloadStep.{PayloadStep}
-use Rattle.emdf_payloads.specs.declared.PayloadStep.TheVariants as PayloadStep
 use Rattle.emdf_payloads.proofs.Turns.{ended_is, found-is, refused-is, moves, rest, enough, Onward, at-payload as onward}
 use Rattle.emdf_payload_list.specs.List.{list_step, list_answer}
 use Rattle.emdf_payload_list.specs.declared.ListStep.TheVariants as ListStep
 use Rattle.emdf_payload_list.specs.declared.ListAnswer.{ListAnswer}
-use Rattle.emdf_payload_list.specs.declared.ListAnswer.TheVariants as ListAnswer
 
 -- ---- what a step of the list says of the payload's
 

@@ -6,11 +6,8 @@ use Rattle.emdf_format.specs.Groups.{larger, payloads_groups}
 use Rattle.emdf_format.specs.declared.EmdfError.{EmdfError}
 use Rattle.emdf_payloads.specs.Payloads.{record_groups}
 use Rattle.emdf_payloads.specs.declared.PayloadStep.{PayloadStep}
-use Rattle.emdf_payloads.specs.declared.PayloadStep.TheVariants as PayloadStep
 use Rattle.emdf_payload_list.specs.declared.ListStep.{ListStep}
-use Rattle.emdf_payload_list.specs.declared.ListStep.TheVariants as ListStep
 use Rattle.emdf_payload_list.specs.declared.ListAnswer.{ListAnswer}
-use Rattle.emdf_payload_list.specs.declared.ListAnswer.TheVariants as ListAnswer
 
 -- a payload that is passed, with the larger of a number of groups and its own
 unfoldable pub list_step : ℕ → PayloadStep → ListStep

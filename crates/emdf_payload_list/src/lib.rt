@@ -1,5 +1,6 @@
 // The list of payloads: how many there are, and the largest number of groups in them.
 #![tactic(auto)]
+
 ghost use Rattle.std.specs.Prelude.{◌≡◌, ◌-◌, ◌^◌, ◌<◌};
 ghost use Rattle.openjoc_bitio.specs.Cursor.{bits_remaining};
 ghost use Rattle.emdf_format.specs.Reading.{payloads};

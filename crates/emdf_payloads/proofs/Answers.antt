@@ -7,7 +7,6 @@ use Rattle.emdf_format.specs.Reading.{Found as Payload}
 use Rattle.emdf_format.specs.declared.EmdfError.{EmdfError}
 use Rattle.emdf_payloads.specs.Payloads.{payload_answer, found, next_step, next_answer}
 use Rattle.emdf_payloads.specs.declared.PayloadStep.{PayloadStep}
-use Rattle.emdf_payloads.specs.declared.PayloadStep.TheVariants as PayloadStep
 
 pub payload-refuses : (e q : ℕ) (why : EmdfError) → PayloadStep.Refused why ≡ payload_answer e (refused why q)
 unfolding payload_answer

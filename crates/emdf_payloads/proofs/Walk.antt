@@ -11,7 +11,6 @@ use Rattle.emdf_format.specs.Reading.{Found, payloads}
 use Rattle.emdf_format.proofs.Standing.{taken, bind_inv, ask-inv, asked, give-inv}
 use Rattle.emdf_payloads.specs.Payloads.{NextPayload, ended, found, next_payload, next_step, next_answer, skip_of, Listed, step_at}
 use Rattle.emdf_payloads.specs.declared.PayloadStep.{PayloadStep}
-use Rattle.emdf_payloads.specs.declared.PayloadStep.TheVariants as PayloadStep
 use Rattle.emdf_payloads.specs.declared.SkipStep.TheVariants as SkipStep
 use Rattle.emdf_payloads.proofs.Turns.{rest, payloads-turn, moves}
 

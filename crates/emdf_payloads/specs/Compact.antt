@@ -9,7 +9,6 @@ use Rattle.emdf_compact.specs.Words.{compact_config, head_length, grouped_head, 
 use Rattle.emdf_payloads.specs.Payloads.{step_at, record_groups}
 use Rattle.emdf_payloads.specs.declared.CompactPayload.{CompactPayload}
 use Rattle.emdf_payloads.specs.declared.PayloadStep.{PayloadStep}
-use Rattle.emdf_payloads.specs.declared.PayloadStep.TheVariants as PayloadStep
 
 -- the words that hold the head of what stands at p, and the size after it
 abbrev pub head_at : List ℕ → ℕ → ℕ

@@ -7,9 +7,7 @@ use Rattle.emdf_format.specs.Syntax.{extended_groups}
 use Rattle.emdf_format.specs.Groups.{larger, config_groups}
 use Rattle.emdf_format.specs.declared.PayloadRecord.{PayloadRecord}
 use Rattle.emdf_payloads.specs.declared.PayloadStep.{PayloadStep}
-use Rattle.emdf_payloads.specs.declared.PayloadStep.TheVariants as PayloadStep
 use Rattle.emdf_payloads.specs.declared.SkipStep.{SkipStep}
-use Rattle.emdf_payloads.specs.declared.SkipStep.TheVariants as SkipStep
 
 unfoldable pub payload_answer : ℕ → Read Found → PayloadStep
 payload_answer e (got x q) = PayloadStep.Payload x.record_of (cursor_at e q)

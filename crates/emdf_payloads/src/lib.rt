@@ -1,5 +1,6 @@
 // Payloads one after another. Each function answers what its definition in emdf_format says; a compact payload is read from words.
 #![tactic(auto)]
+
 ghost use Rattle.std.specs.Prelude.{◌≡◌, true, ◌+◌, ◌^◌, ◌<◌};
 ghost use Rattle.emdf_format.specs.Reading.{trace_of, payload_after};
 ghost use Rattle.openjoc_bitio.specs.Bits.{window_at};

@@ -18,7 +18,6 @@ use Rattle.emdf_format.proofs.Lengths.{length-extended, length-payload, length-p
 use Rattle.emdf_format.proofs.Carrier.{read-contained}
 use Rattle.emdf_format.proofs.Splice.{Splice, protected, list_bits, bits_before, splice-body, splice-settings, splice-drop, splice-insert, splice-key, splice-protection, Parts, located, payload-at}
 use Rattle.emdf_request.specs.declared.Request.{Request}
-use Rattle.emdf_request.specs.declared.Request.TheVariants as Request
 use Rattle.emdf_request.specs.Requests.{edit_of, stretch_of, bringing, new_bits}
 use Rattle.emdf_plan.specs.Plan.{trace_at, layout_of, edge_at}
 

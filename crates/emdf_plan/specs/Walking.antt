@@ -4,9 +4,7 @@ use Rattle.openjoc_bitio.specs.declared.BitCursor.{BitCursor}
 use Rattle.emdf_format.specs.Reading.{trace_of}
 use Rattle.emdf_payloads.specs.Payloads.{skip_of, step_at}
 use Rattle.emdf_payloads.specs.declared.PayloadStep.{PayloadStep}
-use Rattle.emdf_payloads.specs.declared.PayloadStep.TheVariants as PayloadStep
 use Rattle.emdf_payloads.specs.declared.SkipStep.{SkipStep}
-use Rattle.emdf_payloads.specs.declared.SkipStep.TheVariants as SkipStep
 use Rattle.emdf_plan.specs.Types.{Placed}
 
 -- past a payload; elsewhere the cursor stays

@@ -1,5 +1,6 @@
 // What an edit asks before it writes, and where it cuts its source.
 #![tactic(auto)]
+
 ghost use Rattle.std.specs.Prelude.{◌≡◌, ◌+◌, ◌-◌, ◌*◌, ◌^◌, ◌<◌, ◌≤◌, length};
 ghost use Rattle.emdf_format.specs.Reading.{trace_of};
 ghost use Rattle.emdf_payloads.specs.Payloads.{step_at};

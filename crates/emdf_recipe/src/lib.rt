@@ -1,5 +1,6 @@
 // A recipe of edits on file: its records, and the check of its whole chain, before any edit.
 #![tactic(auto)]
+
 ghost use Rattle.std.specs.Prelude.{◌≡◌, ◌^◌, ◌<◌, ◌≤◌};
 ghost use Rattle.emdf_recipe.specs.File.{octets_number, record_at, next_allowed, record_allowed, link_of, recipe_of, check_answer};
 

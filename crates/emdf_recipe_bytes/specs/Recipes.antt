@@ -4,12 +4,10 @@ use Rattle.emdf_format.specs.Refusals.{recipe_refusal, figures_of}
 use Rattle.emdf_format.specs.declared.Figures.{Figures}
 use Rattle.emdf_answers.specs.Replies.{Reply, accepted_reply, refused_reply, Replies}
 use Rattle.emdf_recipe.specs.declared.CheckAnswer.{CheckAnswer}
-use Rattle.emdf_recipe.specs.declared.CheckAnswer.TheVariants as CheckAnswer
 use Rattle.emdf_recipe.specs.File.{recipe_of}
 use Rattle.emdf_recipe_run.specs.declared.Holder.{Holder}
 use Rattle.emdf_recipe_run.specs.declared.Holder.TheVariants.{Start, First, Second}
 use Rattle.emdf_recipe_run.specs.declared.RecipeAnswer.{RecipeAnswer}
-use Rattle.emdf_recipe_run.specs.declared.RecipeAnswer.TheVariants as RecipeAnswer
 use Rattle.emdf_recipe_run.specs.Runs.{run_of, answer_of}
 
 -- accepted: how many edits

@@ -1,5 +1,6 @@
 // The answers of the recipe calls in a host's form.
 #![tactic(auto)]
+
 ghost use Rattle.std.specs.Prelude.{◌≡◌};
 ghost use Rattle.emdf_answers.specs.Form.{words};
 ghost use Rattle.emdf_answers.specs.Replies.{two_reply, Replies};

@@ -12,7 +12,6 @@ use Rattle.std.specs.Prelude.{if◌then◌else◌}
 use Rattle.openjoc_bitio.specs.declared.ByteCount.{ByteCount}
 use Rattle.emdf_format.specs.declared.EditAnswer.{EditAnswer}
 use Rattle.emdf_format.specs.declared.EditAnswer.TheVariants.{Written}
-use Rattle.emdf_format.specs.declared.EditAnswer.TheVariants as EditAnswer
 use Rattle.emdf_format.specs.declared.RecipeError.{RecipeError}
 use Rattle.emdf_format.specs.declared.RecipeError.TheVariants.{BrokenChain}
 use Rattle.emdf_format.specs.Contents.{Contents}

@@ -9,7 +9,6 @@ use lib.Dec.{eqb}
 use borrow.Author.Tests.{eqb-true, eqb-false}
 use Rattle.openjoc_bitio.specs.declared.ByteCount.{ByteCount}
 use Rattle.emdf_format.specs.declared.EditAnswer.{EditAnswer}
-use Rattle.emdf_format.specs.declared.EditAnswer.TheVariants as EditAnswer
 use Rattle.emdf_format.specs.declared.RecipeError.{RecipeError}
 use Rattle.emdf_format.specs.Edits.{Edit, Called}
 use Rattle.emdf_format.proofs.Lists.{keeps-length, in-room}

@@ -2,7 +2,6 @@
 use Rattle.std.specs.Prelude.{◌≡◌, List, [], ◌∷◌, ℕ, ◌+◌, ◌≤◌, length, take}
 use Rattle.emdf_format.specs.declared.EditAnswer.{EditAnswer}
 use Rattle.emdf_format.specs.declared.EditAnswer.TheVariants.{Written}
-use Rattle.emdf_format.specs.declared.EditAnswer.TheVariants as EditAnswer
 use Rattle.emdf_format.specs.Edits.{Edit, Edited, edited}
 use Rattle.emdf_recipe.specs.File.{Recipe, edits, wrong, recipe_of}
 use Rattle.emdf_recipe_run.specs.declared.Holder.{Holder}

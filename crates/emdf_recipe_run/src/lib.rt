@@ -1,5 +1,6 @@
 // A recipe of edits on file, run over two lent buffers.
 #![tactic(auto)]
+
 ghost use Rattle.std.specs.Prelude.{◌≡◌, [], ◌<◌};
 ghost use Rattle.emdf_request.specs.Requests.{edit_of};
 ghost use Rattle.emdf_recipe.specs.File.{edits, recipe_of, edits_of};

@@ -6,11 +6,9 @@ use Rattle.emdf_format.specs.Reading.{Reading, accepted, refusal}
 use Rattle.emdf_format.specs.Calls.{Records, recorded, unrecorded, table_after}
 use Rattle.emdf_format.specs.declared.PayloadRow.{PayloadRow}
 use Rattle.emdf_format.specs.declared.RecordsError.{RecordsError}
-use Rattle.emdf_format.specs.declared.RecordsError.TheVariants as RecordsError
 use Rattle.openjoc_emdf.specs.Answers.{parsed_emdf, first_payload}
 use Rattle.openjoc_emdf.specs.declared.ParsedEmdf.{ParsedEmdf}
 use Rattle.emdf_records_plan.specs.declared.RecordsAnswer.{RecordsAnswer}
-use Rattle.emdf_records_plan.specs.declared.RecordsAnswer.TheVariants as RecordsAnswer
 use Rattle.emdf_records_plan.specs.declared.RecordsPlan.{RecordsPlan}
 
 unfoldable pub records_answer : Records → RecordsAnswer

@@ -1,5 +1,6 @@
 // What a reading into a table answers, and which rows it fills: all that is read and asked before the first row is filled.
 #![tactic(auto)]
+
 ghost use Rattle.std.specs.Prelude.{◌≡◌};
 ghost use Rattle.emdf_format.specs.Reading.{reading};
 ghost use Rattle.emdf_records_plan.specs.Records.{no_rows, rows_plan, records_plan};

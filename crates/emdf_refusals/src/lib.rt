@@ -1,5 +1,6 @@
 // Each refusal's number in the scope, and its figures: a new refusal is a line here and a line in its definition.
 #![tactic(auto)]
+
 ghost use Rattle.std.specs.Prelude.{◌≡◌};
 ghost use Rattle.emdf_format.specs.Refusals.{refusal_of, records_refusal, profile_refusal, body_refusal, find_refusal, edit_refusal, recipe_refusal, figures_of};
 

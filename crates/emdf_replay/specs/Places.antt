@@ -1,11 +1,8 @@
 -- What was read at a place of a list ends past that place, so that a list is gone through in the end. Assumes nothing.
 use Rattle.std.specs.Prelude.{ℕ, ◌<◌, ◌≤◌, List, length}
 use Rattle.emdf_replay.specs.declared.CaseAnswer.{CaseAnswer}
-use Rattle.emdf_replay.specs.declared.CaseAnswer.TheVariants as CaseAnswer
 use Rattle.emdf_replay.specs.declared.list.TokenAnswer.{TokenAnswer}
-use Rattle.emdf_replay.specs.declared.list.TokenAnswer.TheVariants as TokenAnswer
 use Rattle.emdf_replay.specs.declared.list.LineAnswer.{LineAnswer}
-use Rattle.emdf_replay.specs.declared.list.LineAnswer.TheVariants as LineAnswer
 
 abbrev pub TokenPast : ℕ → TokenAnswer → Type 0
 TokenPast at (TokenAnswer.Token v next last) = at < next

@@ -3,7 +3,6 @@ ghost use Rattle.std.specs.Prelude.{◌+◌, ◌^◌, ◌<◌, ◌≤◌, ◌≡
 ghost use Rattle.emdf_replay.specs.Places.{TokenPast, LinePast};
 
 use emdf_text::NumberAnswer;
-use libc::STDOUT_FILENO;
 
 // A number, where the next one starts, and whether a line end stands between.
 #[derive(Clone, Copy)]
@@ -73,7 +72,7 @@ fn token_at(text: &[u8], at: usize) -> TokenAnswer
 
 impl Tally {
     // One case more. Five names are enough to see where to look.
-    pub(crate) fn counted(self, same: bool) -> Self
+    pub(crate) fn counted(self, rt: &impl Print, same: bool) -> Self
         requires { (self.cases + 1 < 2 ^ 64) × (self.differ ≤ self.cases) }
         ensures { (result.cases ≡ self.cases + 1) × (result.differ ≤ result.cases) }
     {
@@ -83,7 +82,7 @@ impl Tally {
             return Tally { cases, differ };
         }
         if differ < 5 {
-            print_line(b"differs: case ", cases);
+            print_line(rt, b"differs: case ", cases);
         }
         Tally {
             cases,
@@ -92,25 +91,22 @@ impl Tally {
     }
 }
 
-pub(crate) fn print_tally(name: &[u8], tally: Tally) {
-    io::write_all(STDOUT_FILENO, name);
-    io::write_all(STDOUT_FILENO, b": ");
-    io::print_decimal(STDOUT_FILENO, tally.cases);
-    io::write_all(STDOUT_FILENO, b" cases, ");
-    io::print_decimal(STDOUT_FILENO, tally.differ);
-    io::write_all(STDOUT_FILENO, b" differ\n");
+// Where standard output takes no line it is lost, here and below: a list is replayed to its end all the same.
+pub(crate) fn print_tally(rt: &impl Print, name: &[u8], tally: Tally) {
+    let Tally { cases, differ } = tally;
+    let _ = rt.write_all(name);
+    let _ = println!(rt; ": {cases} cases, {differ} differ");
 }
 
 // The line after the cases that were replayed.
-pub(crate) fn print_bad_line(name: &[u8], tally: Tally)
+pub(crate) fn print_bad_line(rt: &impl Print, name: &[u8], tally: Tally)
     requires { tally.cases + 1 < 2 ^ 64 }
 {
-    io::write_all(STDOUT_FILENO, name);
-    print_line(b": bad line ", tally.cases + 1);
+    let _ = rt.write_all(name);
+    print_line(rt, b": bad line ", tally.cases + 1);
 }
 
-fn print_line(words: &[u8], number: u64) {
-    io::write_all(STDOUT_FILENO, words);
-    io::print_decimal(STDOUT_FILENO, number);
-    io::write_all(STDOUT_FILENO, b"\n");
+fn print_line(rt: &impl Print, words: &[u8], number: u64) {
+    let _ = rt.write_all(words);
+    let _ = rt.println(number);
 }

@@ -1,15 +1,20 @@
 // Replays lists of the Rust original's answers against the calls that a C host has, and counts the cases that differ.
 #![tactic(auto)]
+
 mod bits;
 mod carriers;
 mod list;
 mod words;
 
-ghost use Rattle.std.specs.Prelude.{◌≡◌, length};
+ghost use Rattle.std.specs.Prelude.{◌≡◌, length, IfOk, IfSome, IsTrue};
+ghost use Rattle.std.specs.Io.KnownBytes.{IsAtEnd};
+ghost use Rattle.emdf_text.specs.Counts.{IsPrefixLen};
 ghost use Rattle.emdf_replay.specs.Places.{CasePast};
 
-use libc::STDOUT_FILENO;
 use list::{LineAnswer, Outcome, Tally};
+use std::io::Read;
+use std::rt::Files;
+use std::{fs, io};
 
 // The longest list that is read, in bytes.
 const MOST_BYTES: usize = 1048576;
@@ -34,40 +39,43 @@ enum CaseAnswer {
     Bad,
 }
 
-fn main() {
-    replay_file(ListKind::Bits, b"bits", b"bits.txt");
-    replay_file(ListKind::Carriers, b"carriers", b"carriers.txt");
+fn main(rt: HostRuntime) {
+    replay_file(&rt, ListKind::Bits, b"bits", "bits.txt");
+    replay_file(&rt, ListKind::Carriers, b"carriers", "carriers.txt");
 }
 
-fn replay_file(kind: ListKind, name: &[u8], path: &[u8]) {
-    let fd = os::open_read(path);
-    if fd < 0 {
-        os::fail(path);
-        return;
-    }
+fn replay_file(rt: &(impl Files + Print + Eprint), kind: ListKind, name: &[u8], path: &str) {
     let mut space = list_space();
-    let n = io::read_full(fd, &mut space);
-    let whole = is_read(fd, path);
-    libc::close(fd);
-    if whole {
-        replay(kind, name, &space[..n]);
+    match read_list(rt, path, &mut space) {
+        Ok(Some(n)) => replay(rt, kind, name, &space[..n]),
+        Ok(None) => {}
+        Err(why) => emdf_text::fail(rt, path, why),
+    }
+}
+
+// How many bytes the list has, which stand at the start of space; nothing where it is too long.
+fn read_list(rt: &(impl Files + Print), path: &str, space: &mut [u8]) -> io::Result<Option<usize>>
+    ensures { IfOk result (λ found. IfSome found (λ n. IsPrefixLen n space.new)) }
+{
+    let mut file = fs::open(rt, path)?;
+    let n = emdf_text::read_full(&mut file, space)?;
+    if is_read(rt, &mut file, path)? {
+        Ok(Some(n))
+    } else {
+        Ok(None)
     }
 }
 
 // Nothing is left to read: a part of a list must not pass for the whole.
-fn is_read(fd: i32, path: &[u8]) -> bool {
+fn is_read<R: Read>(rt: &impl Print, file: &mut R, path: &str) -> io::Result<bool>
+    ensures { IfOk result (λ whole. IsTrue whole → IsAtEnd (R.remaining file.new)) }
+{
     let mut more = [0u8; 1];
-    let got = libc::read(fd, &mut more);
-    if got < 0 {
-        os::fail(path);
-        return false;
+    if file.read(&mut more)? == 0 {
+        return Ok(true);
     }
-    if 0 < got {
-        io::write_all(STDOUT_FILENO, path);
-        io::write_all(STDOUT_FILENO, b": too long\n");
-        return false;
-    }
-    true
+    let _ = println!(rt; "{path}: too long");
+    Ok(false)
 }
 
 // By itself, so that no other proof counts so long an array through.
@@ -77,7 +85,7 @@ fn list_space() -> [u8; MOST_BYTES]
     [0; MOST_BYTES]
 }
 
-fn replay(kind: ListKind, name: &[u8], text: &[u8]) {
+fn replay(rt: &impl Print, kind: ListKind, name: &[u8], text: &[u8]) {
     let mut tally = Tally {
         cases: 0,
         differ: 0,
@@ -86,13 +94,13 @@ fn replay(kind: ListKind, name: &[u8], text: &[u8]) {
     while at < text.len() {
         let answer = case_at(kind, text, at);
         let CaseAnswer::Case(next, same) = answer else {
-            list::print_bad_line(name, tally);
+            list::print_bad_line(rt, name, tally);
             return;
         };
-        tally = tally.counted(same);
+        tally = tally.counted(rt, same);
         at = next;
     }
-    list::print_tally(name, tally);
+    list::print_tally(rt, name, tally);
 }
 
 // The case on the line at index at.

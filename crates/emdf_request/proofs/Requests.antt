@@ -17,7 +17,6 @@ use Rattle.emdf_format.proofs.Payloads.{length-octets}
 use Rattle.emdf_format.proofs.Lengths.{length-extended, length-config, length-payload}
 use Rattle.emdf_measure.specs.Parts.{writable_protection}
 use Rattle.emdf_request.specs.declared.Request.{Request}
-use Rattle.emdf_request.specs.declared.Request.TheVariants as Request
 use Rattle.emdf_request.specs.Requests.{edit_of, stretch_of, bringing, new_bits}
 
 -- ---- the place

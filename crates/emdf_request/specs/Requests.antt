@@ -5,7 +5,6 @@ use Rattle.emdf_format.specs.Contents.{Payload, config_bits, payload_bits, prote
 use Rattle.emdf_format.specs.Edits.{Edit, body_edit, settings_edit, drop_edit, insert_edit, key_edit, protection_edit}
 use Rattle.emdf_measure.specs.Parts.{writable_protection}
 use Rattle.emdf_request.specs.declared.Request.{Request}
-use Rattle.emdf_request.specs.declared.Request.TheVariants as Request
 use Rattle.emdf_request.specs.declared.Edge.TheVariants.{Key, First, Id, Config, Size, Next, Codes, Protection, End}
 use Rattle.emdf_request.specs.declared.Stretch.{Stretch}
 use Rattle.emdf_request.specs.declared.Brought.{Brought}

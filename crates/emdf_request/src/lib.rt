@@ -1,5 +1,6 @@
 // What a request for an edit asks for: its place, the bits that it replaces, and what it brings.
 #![tactic(auto)]
+
 ghost use Rattle.std.specs.Prelude.{◌≡◌, [], ◌≤◌};
 ghost use Rattle.emdf_format.specs.Contents.{writable_payload};
 ghost use Rattle.emdf_format.specs.Edits.{place_exists};

@@ -1,5 +1,6 @@
 // Answers and payloads' rows, stored as numbers of 8 bytes into a host's bytes.
 #![tactic(auto)]
+
 ghost use Rattle.std.specs.Prelude.{◌≡◌, List, suc, ◌+◌, ◌*◌, ◌≤◌, length, replicate};
 ghost use Rattle.std.proofs.lemmas.List.Edits.{sets};
 ghost use Rattle.emdf_format.specs.Reading.{Found};

@@ -12,9 +12,7 @@ use Rattle.emdf_format.specs.declared.EmdfError.{EmdfError}
 use Rattle.emdf_fields.proofs.Answers.{Found, ends}
 use Rattle.emdf_settings.specs.Settings.{optional_answer, config_answer, optional_error, config_error}
 use Rattle.emdf_settings.specs.declared.OptionalAnswer.{OptionalAnswer}
-use Rattle.emdf_settings.specs.declared.OptionalAnswer.TheVariants as OptionalAnswer
 use Rattle.emdf_settings.specs.declared.ConfigAnswer.{ConfigAnswer}
-use Rattle.emdf_settings.specs.declared.ConfigAnswer.TheVariants as ConfigAnswer
 
 pub optional-found : {e : ℕ} (x : Read Optional) {o : Optional} {c : BitCursor} → optional_answer e x ≡ OptionalAnswer.Value o c → Found x e o c
 unfolding optional_answer

@@ -5,9 +5,7 @@ use Rattle.emdf_format.specs.declared.Optional.{Optional}
 use Rattle.emdf_format.specs.declared.EmdfPayloadConfig.{EmdfPayloadConfig}
 use Rattle.emdf_format.specs.declared.EmdfError.{EmdfError}
 use Rattle.emdf_settings.specs.declared.OptionalAnswer.{OptionalAnswer}
-use Rattle.emdf_settings.specs.declared.OptionalAnswer.TheVariants as OptionalAnswer
 use Rattle.emdf_settings.specs.declared.ConfigAnswer.{ConfigAnswer}
-use Rattle.emdf_settings.specs.declared.ConfigAnswer.TheVariants as ConfigAnswer
 
 unfoldable pub optional_answer : ℕ → Read Optional → OptionalAnswer
 optional_answer e (got o q) = OptionalAnswer.Value o (cursor_at e q)

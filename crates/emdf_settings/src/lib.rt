@@ -1,5 +1,6 @@
 // The settings of a payload: which of them the rule wants, and settings read field by field.
 #![tactic(auto)]
+
 ghost use Rattle.std.specs.Prelude.{◌≡◌, ◌≤◌, if◌then◌else◌};
 ghost use Rattle.emdf_format.specs.Contents.{is_present, is_one, has_aligned, has_priority};
 ghost use Rattle.emdf_format.specs.Reader.{bits, variable_bits, present, flagged};

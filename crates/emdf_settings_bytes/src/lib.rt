@@ -1,5 +1,6 @@
 // Settings from a host's bytes.
 #![tactic(auto)]
+
 ghost use Rattle.std.specs.Prelude.{◌≡◌, ◌+◌, ◌*◌, ◌<◌, ◌≤◌, length};
 ghost use Rattle.emdf_answers.specs.Form.{number_at};
 ghost use Rattle.emdf_settings_bytes.specs.Settings.{optional_at, pair_formed, pairs_formed, settings_formed, config_of, unformed, settings_of};

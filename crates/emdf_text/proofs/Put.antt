@@ -10,7 +10,7 @@ use native.Mathlib.Numerals.{add-one}
 use native.Mathlib.Omega.{arith}
 use lib.ListN.{length, get_or, set, take, drop, length-set, length-append}
 use lib.Seq.{length-take-le, take-length, drop-length, take-suc, drop-cons, take-suc-set, drop-nil, drop-set-lt}
-use Rattle.io.specs.Counts.{IsPrefixLen}
+use Rattle.emdf_text.specs.Counts.{IsPrefixLen}
 use Rattle.emdf_text.specs.Lines.{decimal, spaced, Printed, PrintedWithin}
 
 -- ---- what stands after the text

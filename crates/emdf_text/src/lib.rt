@@ -1,11 +1,16 @@
-// Text, as the programs read and write it: decimal numbers in it, and lines in a buffer.
+// Text, as the programs read and write it: a reader's bytes, decimal numbers in them, lines in a buffer, and what failed.
 #![tactic(auto)]
+
+mod input;
 mod lines;
+mod report;
 
 ghost use Rattle.std.specs.Prelude.{◌≡◌, drop};
 ghost use Rattle.emdf_text.specs.Text.{digit, digit_step, scan, decimal_at};
 
+pub use input::read_full;
 pub use lines::{put_decimal, put_line};
+pub use report::fail;
 
 #[derive(Clone, Copy)]
 pub enum NumberAnswer {

@@ -2,6 +2,8 @@
 ghost use Rattle.std.specs.Prelude.{◌+◌, ◌*◌, ◌≤◌, ◌<◌, ◌≡◌, [], ◌∷◌, length, leb};
 ghost use Rattle.emdf_text.specs.Lines.{decimal, spaced, line, Printed, PrintedWithin};
 
+use itoa::Buffer;
+
 // A word, and numbers after it, where 21 bytes a number have room; else nothing.
 pub fn put_line(out: &mut [u8], at: usize, word: &[u8], numbers: &[u64]) -> usize
     ensures { PrintedWithin (length word.now + 21 * length numbers.now + 1) out.old at (line word.now numbers.now) out.new result }
@@ -62,9 +64,8 @@ pub fn put_decimal(out: &mut [u8], at: usize, number: u64) -> usize
     if !has_room(out.len(), at, 19, 0) {
         return at;
     }
-    let mut text = [0u8; 20];
-    let n = io::decimal(number, &mut text);
-    put_bytes(out, at, &text[..n])
+    let mut buffer = Buffer::new();
+    put_bytes(out, at, buffer.format(number).as_bytes())
 }
 
 // The bytes, where they have room; else nothing.

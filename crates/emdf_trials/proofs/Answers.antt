@@ -8,13 +8,9 @@ use lib.Seq.{sets}
 use Rattle.openjoc_bitio.specs.Cursor.{read_bits, read_bit, take_bits, byte_align}
 use Rattle.openjoc_bitio.specs.declared.BitCursor.{BitCursor}
 use Rattle.openjoc_bitio.specs.declared.BitsAnswer.{BitsAnswer}
-use Rattle.openjoc_bitio.specs.declared.BitsAnswer.TheVariants as BitsAnswer
 use Rattle.openjoc_bitio.specs.declared.BitAnswer.{BitAnswer}
-use Rattle.openjoc_bitio.specs.declared.BitAnswer.TheVariants as BitAnswer
 use Rattle.openjoc_bitio.specs.declared.WindowAnswer.{WindowAnswer}
-use Rattle.openjoc_bitio.specs.declared.WindowAnswer.TheVariants as WindowAnswer
 use Rattle.openjoc_bitio.specs.declared.AlignAnswer.{AlignAnswer}
-use Rattle.openjoc_bitio.specs.declared.AlignAnswer.TheVariants as AlignAnswer
 use Rattle.openjoc_bit_reader.specs.Reader.{bits_step_of, bit_step_of, window_step_of, align_step_of, bits_step, bit_step, window_step, align_step}
 use Rattle.openjoc_bit_reader.specs.declared.BitsStep.{BitsStep}
 use Rattle.openjoc_bit_reader.specs.declared.BitStep.{BitStep}
@@ -24,7 +20,6 @@ use Rattle.emdf_format.specs.Reading.{reading}
 use Rattle.emdf_format.specs.Calls.{Records, recorded, unrecorded, in_table, table_after}
 use Rattle.emdf_format.specs.declared.EmdfError.{EmdfError}
 use Rattle.emdf_format.specs.declared.RecordsError.{RecordsError}
-use Rattle.emdf_format.specs.declared.RecordsError.TheVariants as RecordsError
 use Rattle.emdf_format.specs.declared.PayloadRow.{PayloadRow}
 use Rattle.openjoc_emdf.specs.Answers.{parsed_emdf}
 use Rattle.openjoc_emdf.specs.declared.ParsedEmdf.{ParsedEmdf}
@@ -32,7 +27,6 @@ use Rattle.openjoc_emdf.specs.declared.ParseAnswer.{ParseAnswer}
 use Rattle.openjoc_emdf.specs.declared.ParseAnswer.TheVariants.{Parsed, Refused}
 use Rattle.emdf_records_plan.specs.Records.{records_answer}
 use Rattle.emdf_records_plan.specs.declared.RecordsAnswer.{RecordsAnswer}
-use Rattle.emdf_records_plan.specs.declared.RecordsAnswer.TheVariants as RecordsAnswer
 use Rattle.emdf_answers.specs.Form.{words}
 use Rattle.emdf_answers.specs.Bits.{bits_reply, bit_reply, window_reply, align_reply}
 use Rattle.emdf_answers.specs.Replies.{Replies}

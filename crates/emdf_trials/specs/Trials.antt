@@ -3,26 +3,18 @@ use Rattle.std.specs.Prelude.{List, Bool, true, false, ℕ, ◌/◌, ◌%◌, ta
 use Rattle.openjoc_bitio.specs.Cursor.{whole_slice, bits_remaining, read_bits, read_bit, take_bits, byte_align}
 use Rattle.openjoc_bitio.specs.declared.BitCursor.{BitCursor}
 use Rattle.openjoc_bitio.specs.declared.BitsAnswer.{BitsAnswer}
-use Rattle.openjoc_bitio.specs.declared.BitsAnswer.TheVariants as BitsAnswer
 use Rattle.openjoc_bitio.specs.declared.BitAnswer.{BitAnswer}
-use Rattle.openjoc_bitio.specs.declared.BitAnswer.TheVariants as BitAnswer
 use Rattle.openjoc_bitio.specs.declared.WindowAnswer.{WindowAnswer}
-use Rattle.openjoc_bitio.specs.declared.WindowAnswer.TheVariants as WindowAnswer
 use Rattle.openjoc_bitio.specs.declared.AlignAnswer.{AlignAnswer}
-use Rattle.openjoc_bitio.specs.declared.AlignAnswer.TheVariants as AlignAnswer
 use Rattle.openjoc_bit_reader.specs.declared.BitsResult.{BitsResult}
-use Rattle.openjoc_bit_reader.specs.declared.BitsResult.TheVariants as BitsResult
 use Rattle.openjoc_bit_reader.specs.declared.BitResult.{BitResult}
-use Rattle.openjoc_bit_reader.specs.declared.BitResult.TheVariants as BitResult
 use Rattle.openjoc_bit_reader.specs.declared.MoveResult.{MoveResult}
-use Rattle.openjoc_bit_reader.specs.declared.MoveResult.TheVariants as MoveResult
 use Rattle.emdf_format.specs.Reading.{reading}
 use Rattle.emdf_format.specs.Refusals.{refusal_of, figures_of}
 use Rattle.emdf_format.specs.Calls.{Records, in_table, table_after}
 use Rattle.emdf_format.specs.declared.Optional.TheVariants.{Present}
 use Rattle.emdf_format.specs.declared.PayloadRow.{PayloadRow}
 use Rattle.openjoc_emdf.specs.declared.ParseAnswer.{ParseAnswer}
-use Rattle.openjoc_emdf.specs.declared.ParseAnswer.TheVariants as ParseAnswer
 use Rattle.emdf_answers.specs.Bits.{accepted, bits_reply, bit_reply, window_reply, align_reply}
 use Rattle.emdf_answers.specs.Form.{row_bytes}
 use Rattle.emdf_answers.specs.Replies.{Reply, accepted_reply, refused_reply}

@@ -1,6 +1,7 @@
 // Calls of the library that neither a host nor a program makes, exported for tests/differential in the byte forms of
 // emdf_host (docs/HOST.md).
 #![tactic(auto)]
+
 ghost use Rattle.std.specs.Prelude.{◌≡◌, ◌*◌, ◌≤◌, length, take};
 ghost use Rattle.std.proofs.lemmas.List.Edits.{sets};
 ghost use Rattle.emdf_format.specs.Syntax.{octet_bits};

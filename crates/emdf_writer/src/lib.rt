@@ -1,5 +1,6 @@
 // Numbers and runs of bits, written into a caller's bytes at any bit position.
 #![tactic(auto)]
+
 ghost use Rattle.std.specs.Prelude.{◌≡◌, ◌+◌, ◌-◌, ◌*◌, ◌/◌, ◌%◌, ◌^◌, ◌<◌, ◌≤◌, length, get_or, leb};
 ghost use Rattle.std.proofs.lemmas.List.Edits.{sets};
 ghost use Rattle.openjoc_bitio.specs.Bits.{bits_value, number_bits};

@@ -20,9 +20,7 @@ use Rattle.openjoc_emdf.specs.Answers.{parsed_emdf, parse_answer, first_payload,
 use Rattle.emdf_container.specs.Container.{container_of}
 use Rattle.openjoc_emdf.specs.declared.ParsedEmdf.{ParsedEmdf}
 use Rattle.openjoc_emdf.specs.declared.OpenAnswer.{OpenAnswer}
-use Rattle.openjoc_emdf.specs.declared.OpenAnswer.TheVariants as OpenAnswer
 use Rattle.openjoc_emdf.specs.declared.ParseAnswer.{ParseAnswer}
-use Rattle.openjoc_emdf.specs.declared.ParseAnswer.TheVariants as ParseAnswer
 use Rattle.openjoc_emdf.proofs.Header.{too_short, no-sync}
 use Rattle.emdf_text.specs.Lines.{ascii, line}
 use Rattle.emdfcheck.specs.Output.{record_lines, parsed_lines, class_lines, output}

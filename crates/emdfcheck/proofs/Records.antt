@@ -10,7 +10,6 @@ use Rattle.emdf_format.specs.Reading.{Found, reading}
 use Rattle.emdf_format.specs.declared.PayloadRecord.{PayloadRecord}
 use Rattle.emdf_format.specs.Calls.{records_of}
 use Rattle.emdf_payloads.specs.declared.PayloadStep.{PayloadStep}
-use Rattle.emdf_payloads.specs.declared.PayloadStep.TheVariants as PayloadStep
 use Rattle.emdf_payloads.specs.Payloads.{Listed, step_at}
 use Rattle.emdf_payloads.proofs.Walk.{listed-step, step-found}
 use Rattle.openjoc_emdf.proofs.Opening.{read_first}

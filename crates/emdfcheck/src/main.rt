@@ -1,22 +1,24 @@
 // Prints what carrier standard input is: its class and, of a carrier that is read, each payload's id and where its parts
 // stand. The lines are the scope's.
 #![tactic(auto)]
+
 ghost use Rattle.std.specs.Prelude.{◌+◌, ◌≤◌, ◌≡◌, length, take};
-ghost use Rattle.io.specs.Counts.{IsPrefixLen};
 ghost use Rattle.emdf_format.specs.Reading.{reading, refusal};
 ghost use Rattle.emdf_format.specs.Refusals.{refusal_of, figures_of};
 ghost use Rattle.emdf_format.specs.Calls.{classify};
 ghost use Rattle.openjoc_emdf.specs.Answers.{open_answer};
 ghost use Rattle.openjoc_emdf.specs.declared.OpenAnswer.TheVariants as OpenAnswer;
 ghost use Rattle.emdfcheck.specs.Output.{record_line, record_lines, class_lines, output};
+ghost use Rattle.emdf_text.specs.Counts.{IsPrefixLen};
 ghost use Rattle.emdf_text.specs.Lines.{Printed};
 ghost use Rattle.emdfcheck.specs.Parts.{is_non_emdf, records_in, Printable};
 
 use emdf_format::{EmdfError, PayloadRecord};
 use emdf_payloads::PayloadStep;
-use libc::{STDERR_FILENO, STDIN_FILENO, STDOUT_FILENO};
 use openjoc_bitio::BitCursor;
 use openjoc_emdf::{CarrierClassification, OpenAnswer, ParsedEmdf};
+use std::env::FillError;
+use std::rt::Env;
 
 // The longest input, in bytes.
 const MOST_BYTES: usize = 65536;
@@ -24,25 +26,34 @@ const MOST_BYTES: usize = 65536;
 // The most payloads that are listed.
 const MOST_PAYLOADS: usize = 512;
 
-fn main() {
+fn main(rt: HostRuntime) {
     // The name of a file must not pass for the file.
-    if 1 < os::arg_count() {
-        io::write_all(STDERR_FILENO, b"usage: emdfcheck <FILE\n");
+    if has_argument(&rt) {
+        // Where standard error takes no line, nothing is left to do.
+        let _ = rt.eprintln("usage: emdfcheck <FILE");
         return;
     }
     let mut input = input_space();
-    let n = io::read_full(STDIN_FILENO, &mut input);
-    let mut more = [0u8; 1];
-    // A read that fails ends the input too, and must not pass for its end.
-    if libc::read(STDIN_FILENO, &mut more) < 0 {
-        os::fail(b"standard input");
-        return;
+    match emdf_text::read_full(&mut rt.stdin(), &mut input) {
+        Ok(n) => print_output(&rt, &input[..n]),
+        Err(why) => emdf_text::fail(&rt, "standard input", why),
     }
-    // Room for 512 lines of at most 126 bytes, and one before them.
-    let mut out = io::large_buffer();
-    let length = put_output(&input[..n], &mut out);
-    if !io::write_all(STDOUT_FILENO, &out[..length]) {
-        os::fail(b"standard output");
+}
+
+// The argument after the program's name, of which no byte is read: an empty one counts too.
+fn has_argument(env: &impl Env) -> bool {
+    match env.arg(1, &mut []) {
+        Ok(_) => true,
+        Err(FillError::TooLong) => true,
+        Err(FillError::NotPresent) => false,
+    }
+}
+
+fn print_output(rt: &(impl Print + Eprint), bytes: &[u8]) {
+    let mut out = output_space();
+    let length = put_output(bytes, &mut out);
+    if let Err(why) = rt.write_all(&out[..length]) {
+        emdf_text::fail(rt, "standard output", why);
     }
 }
 
@@ -51,6 +62,13 @@ fn input_space() -> [u8; 65537]
     ensures { 65537 ≡ length result }
 {
     [0; 65537]
+}
+
+// Room for 512 lines of at most 126 bytes, and one before them.
+fn output_space() -> [u8; 65536]
+    ensures { 65536 ≡ length result }
+{
+    [0; 65536]
 }
 
 // All that is printed, at the start of out.

@@ -2,12 +2,12 @@
 use mathlib.Core.Path.{◌≡◌, refl, sym, ap, ◌∙◌}
 use mathlib.Core.Bool.{Bool, true, false, not}
 use mathlib.Core.List.{List, [], ◌∷◌, ◌++◌}
-use Prim.Native.Nat.{ℕ, ◌+◌, ◌*◌, ◌/◌, ◌%◌, ◌^◌, ◌<◌}
+use Prim.Native.Nat.{ℕ, ◌+◌, ◌*◌, ◌/◌, ◌%◌, ◌<◌}
 use native.Mathlib.Omega.{arith}
 use lib.Count.{ones_step}
 use lib.Count.{ones as ones_in}
 use lib.Dec.{eqb, lit<, eqb→eq}
-use lib.ListN.{length, take, drop}
+use lib.ListN.{take, drop}
 use Rattle.std.specs.Prelude.{if◌then◌else◌}
 use Rattle.emdf_format.specs.Contents.{◌&◌, is_present}
 use Rattle.emdf_format.specs.Profile.{meets, differ, Entry, table56, deviations, passes, all_pass, meets_profile, word, ones, status, judge}

@@ -1,6 +1,7 @@
 // The settings of an OAMD and a JOC payload, judged by table 56 as the original has it: marks, and whether a profile lets
 // them pass.
 #![tactic(auto)]
+
 ghost use Rattle.std.specs.Prelude.{◌≡◌, not, List, ◌+◌, ◌≤◌, ◌<◌, ◌^◌, take, drop};
 ghost use Rattle.emdf_format.specs.Profile.{meets, differ, on_oamd, table56, marks, deviations, word, ones, all_pass, meets_profile, status, judge};
 ghost use Rattle.emdf_format.specs.declared.JocRole.TheVariants.{Oamd};

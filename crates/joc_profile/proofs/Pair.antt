@@ -6,7 +6,6 @@ use mathlib.Core.Option.{Option, none, some}
 use Prim.Native.Nat.{ℕ, zero, suc, ◌+◌, ◌≤◌}
 use native.Mathlib.Omega.{arith}
 use lib.Dec.{eqb}
-use denote.Enum.Declared.{tag_of}
 use borrow.Author.Tests.{ne_eqb}
 use Rattle.std.specs.Prelude.{if◌then◌else◌}
 use Rattle.openjoc_bitio.specs.declared.BitCursor.{BitCursor}
@@ -16,7 +15,6 @@ use Rattle.emdf_format.specs.Profile.{count_id, first_id, only_id, judge, judged
 use Rattle.emdf_format.specs.declared.JocValidationProfile.{JocValidationProfile}
 use Rattle.emdf_format.specs.declared.JocProfileError.TheVariants.{Emdf, PayloadCount}
 use Rattle.emdf_format.specs.declared.JocProfileAnswer.{JocProfileAnswer}
-use Rattle.emdf_format.specs.declared.JocProfileAnswer.TheVariants as JocProfileAnswer
 use Rattle.emdf_format.specs.declared.EmdfError.{EmdfError}
 use Rattle.emdf_format.specs.declared.PayloadRecord.{PayloadRecord}
 use Rattle.emdf_format.specs.declared.PlacedConfig.{PlacedConfig}
@@ -25,17 +23,14 @@ use Rattle.emdf_container.specs.Container.{container_of}
 use Rattle.openjoc_emdf.specs.declared.ParsedEmdf.{ParsedEmdf}
 use Rattle.openjoc_emdf.specs.Answers.{parsed_emdf, open_answer}
 use Rattle.openjoc_emdf.specs.declared.OpenAnswer.{OpenAnswer}
-use Rattle.openjoc_emdf.specs.declared.OpenAnswer.TheVariants as OpenAnswer
 use Rattle.openjoc_emdf.proofs.Opening.{unopened}
 use Rattle.emdf_payloads.specs.Payloads.{Listed, step_at}
 use Rattle.emdf_payloads.proofs.Walk.{First, step-found, step-ended}
 use Rattle.joc_profile.specs.Pair.{count_of, seen_more, seen_next, seen_from, pair_of, placed_of, judged_pair, open_error}
 use Rattle.joc_profile.specs.declared.PairAnswer.{PairAnswer}
 use Rattle.joc_profile.specs.declared.PairAnswer.TheVariants.{Pair}
-use Rattle.joc_profile.specs.declared.PairAnswer.TheVariants as PairAnswer
 use Rattle.joc_profile.specs.declared.Seen.{Seen}
 use Rattle.joc_profile.specs.declared.Seen.TheVariants.{Nothing, One, Several}
-use Rattle.joc_profile.specs.contracts.Seen as seen-type
 
 -- ---- a turn of the loop
 

@@ -9,9 +9,7 @@ use Rattle.emdf_format.specs.declared.PlacedConfig.{PlacedConfig}
 use Rattle.emdf_format.specs.declared.JocValidationProfile.{JocValidationProfile}
 use Rattle.emdf_format.specs.declared.JocProfileError.TheVariants.{PayloadCount}
 use Rattle.emdf_format.specs.declared.JocProfileAnswer.{JocProfileAnswer}
-use Rattle.emdf_format.specs.declared.JocProfileAnswer.TheVariants as JocProfileAnswer
 use Rattle.openjoc_emdf.specs.declared.OpenAnswer.{OpenAnswer}
-use Rattle.openjoc_emdf.specs.declared.OpenAnswer.TheVariants as OpenAnswer
 use Rattle.joc_profile.specs.declared.Seen.{Seen}
 use Rattle.joc_profile.specs.declared.Seen.TheVariants.{Nothing, One, Several}
 use Rattle.joc_profile.specs.declared.PairAnswer.{PairAnswer}

@@ -1,5 +1,6 @@
 // The verdict on a carrier: TS 103 420 tables 55 and 56 as the original has them, by a strict and by a compatible policy.
 #![tactic(auto)]
+
 ghost use Rattle.std.specs.Prelude.{◌≡◌, List, ◌+◌, ◌≤◌, ◌<◌, ◌^◌, take, drop};
 ghost use Rattle.openjoc_bitio.specs.declared.BitCursor.{BitCursor};
 ghost use Rattle.emdf_format.specs.Reading.{Found};

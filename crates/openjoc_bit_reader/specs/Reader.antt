@@ -4,13 +4,9 @@ use Rattle.std.specs.Borrow.{Bor}
 use Rattle.openjoc_bitio.specs.Cursor.{whole_slice, bits_remaining, read_bits, read_bit, take_bits, byte_align}
 use Rattle.openjoc_bitio.specs.declared.BitCursor.{BitCursor}
 use Rattle.openjoc_bitio.specs.declared.BitsAnswer.{BitsAnswer}
-use Rattle.openjoc_bitio.specs.declared.BitsAnswer.TheVariants as BitsAnswer
 use Rattle.openjoc_bitio.specs.declared.BitAnswer.{BitAnswer}
-use Rattle.openjoc_bitio.specs.declared.BitAnswer.TheVariants as BitAnswer
 use Rattle.openjoc_bitio.specs.declared.WindowAnswer.{WindowAnswer}
-use Rattle.openjoc_bitio.specs.declared.WindowAnswer.TheVariants as WindowAnswer
 use Rattle.openjoc_bitio.specs.declared.AlignAnswer.{AlignAnswer}
-use Rattle.openjoc_bitio.specs.declared.AlignAnswer.TheVariants as AlignAnswer
 use Rattle.openjoc_bit_reader.specs.declared.BitsResult.TheVariants as BitsResult
 use Rattle.openjoc_bit_reader.specs.declared.BitResult.TheVariants as BitResult
 use Rattle.openjoc_bit_reader.specs.declared.MoveResult.TheVariants as MoveResult

@@ -1,5 +1,6 @@
 // A reader that holds its bytes: the Rust's BitReader, over the cursor of openjoc_bitio.
 #![tactic(auto)]
+
 ghost use Rattle.std.specs.Prelude.{◌≡◌};
 ghost use Rattle.openjoc_bit_reader.specs.Reader.{bits_step, bit_step, window_step, align_step, opened, reader_at, reader_remaining, bits_read, bit_read, window_taken, window, aligned};
 

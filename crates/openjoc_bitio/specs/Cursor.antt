@@ -1,12 +1,8 @@
 -- What each call at a cursor answers: the scope, 'Bits', and its questions 3 and 4. Assumes nothing.
 use Rattle.std.specs.Prelude.{ℕ, ◌+◌, ◌-◌, ◌*◌, ◌%◌, ◌^◌, List, not, length, eqb, leb, ltb, if◌then◌else◌}
 use Rattle.openjoc_bitio.specs.Bits.{bit_at, bits_value}
-use Rattle.openjoc_bitio.specs.Types.{BitCursor, BitError, BitsAnswer, BitAnswer, WindowAnswer, AlignAnswer}
+use Rattle.openjoc_bitio.specs.Types.{BitCursor, BitsAnswer, BitAnswer, WindowAnswer, AlignAnswer}
 use Rattle.openjoc_bitio.specs.declared.BitError.TheVariants.{InvalidWidth, EndOfInput}
-use Rattle.openjoc_bitio.specs.declared.BitsAnswer.TheVariants as BitsAnswer
-use Rattle.openjoc_bitio.specs.declared.BitAnswer.TheVariants as BitAnswer
-use Rattle.openjoc_bitio.specs.declared.WindowAnswer.TheVariants as WindowAnswer
-use Rattle.openjoc_bitio.specs.declared.AlignAnswer.TheVariants as AlignAnswer
 
 -- the bits that a cursor can count in s: none where they are 2^64 or more
 unfoldable pub bit_length : List ℕ → ℕ

@@ -1,5 +1,6 @@
 // Checked, most-significant-bit-first reading of a bounded bit slice: the port of openjoc-bitio.
 #![tactic(auto)]
+
 ghost use Rattle.std.specs.Prelude.{◌≡◌, min, ◌+◌, ◌-◌, ◌*◌, ◌/◌, ◌%◌, ◌^◌, ◌<◌, ◌≤◌, length};
 ghost use Rattle.openjoc_bitio.specs.Bits.{bit_at, bits_value, window_at, swap_four, swap_octets};
 ghost use Rattle.openjoc_bitio.specs.Cursor.{bit_length, whole_slice, bits_remaining, read_bits, read_bit, take_bits, byte_align};

@@ -20,9 +20,7 @@ use Rattle.emdf_format.proofs.Bytes.{byte-value}
 use Rattle.openjoc_emdf.specs.Answers.{parsed_of, parse_answer, class_answer, classified_of}
 use Rattle.emdf_container.specs.Container.{container_of, container_answer}
 use Rattle.openjoc_emdf.specs.declared.ParseAnswer.{ParseAnswer}
-use Rattle.openjoc_emdf.specs.declared.ParseAnswer.TheVariants as ParseAnswer
 use Rattle.openjoc_emdf.specs.declared.CarrierClassification.{CarrierClassification}
-use Rattle.openjoc_emdf.specs.declared.CarrierClassification.TheVariants as CarrierClassification
 
 -- two bytes are a number of 16 bits
 pub word-is : (s : List ℕ) (i : ℕ) {w : ℕ} → get_or s i 0 < 256 → get_or s (i + 1) 0 < 256 → w ≡ get_or s i 0 * 256 + get_or s (i + 1) 0 → w ≡ bits_value s (8 * i) 16

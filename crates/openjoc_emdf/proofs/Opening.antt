@@ -13,7 +13,6 @@ use Rattle.emdf_payloads.specs.Payloads.{Listed}
 use Rattle.openjoc_emdf.specs.Answers.{parsed_emdf, parse_answer, first_payload, open_answer, parse_error, Opened}
 use Rattle.openjoc_emdf.specs.declared.ParsedEmdf.{ParsedEmdf}
 use Rattle.openjoc_emdf.specs.declared.ParseAnswer.{ParseAnswer}
-use Rattle.openjoc_emdf.specs.declared.ParseAnswer.TheVariants as ParseAnswer
 use Rattle.openjoc_emdf.specs.declared.OpenAnswer.TheVariants as OpenAnswer
 
 accepted-is : (x : Reading) {p : ParsedEmdf} → parse_answer x ≡ ParseAnswer.Parsed p → (c : Container) × (x ≡ accepted p.bytes_consumed.0 c) × (parsed_emdf p.bytes_consumed.0 c ≡ p)

@@ -6,13 +6,8 @@ use Rattle.emdf_format.specs.Reading.{Container, Reading, accepted, refusal, rea
 use Rattle.emdf_format.specs.Calls.{Class, non_emdf, parsed, trailing_data, malformed}
 use Rattle.emdf_format.specs.declared.EmdfError.{EmdfError}
 use Rattle.emdf_fields.specs.declared.FieldAnswer.{FieldAnswer}
-use Rattle.emdf_fields.specs.declared.FieldAnswer.TheVariants as FieldAnswer
 use Rattle.emdf_container.specs.declared.ContainerAnswer.{ContainerAnswer}
-use Rattle.emdf_container.specs.declared.ContainerAnswer.TheVariants as ContainerAnswer
 use Rattle.openjoc_emdf.specs.Types.{ParsedEmdf, ParseAnswer, OpenAnswer, CarrierClassification}
-use Rattle.openjoc_emdf.specs.declared.ParseAnswer.TheVariants as ParseAnswer
-use Rattle.openjoc_emdf.specs.declared.OpenAnswer.TheVariants as OpenAnswer
-use Rattle.openjoc_emdf.specs.declared.CarrierClassification.TheVariants as CarrierClassification
 use Rattle.emdf_fields.specs.Fields.{field_answer}
 use Rattle.emdf_payloads.specs.Payloads.{Listed}
 use Rattle.emdf_container.specs.Container.{container_of}

@@ -1,6 +1,7 @@
 // Reading carriers, and their class: the port of openjoc-emdf, over its containers. Each function answers what its definition in
 // emdf_format says.
 #![tactic(auto)]
+
 ghost use Rattle.std.specs.Prelude.{◌≡◌, ◌+◌, ◌-◌, ◌*◌, ◌^◌, ◌≤◌, ◌<◌, length};
 ghost use Rattle.emdf_format.specs.Reading.{reading};
 ghost use Rattle.emdf_format.specs.Calls.{classify};

@@ -1,6 +1,7 @@
 // Each call of a BitReader, made on a reader that holds these bytes and stands at this cursor: for callers with plain
 // parameters.
 #![tactic(auto)]
+
 ghost use Rattle.std.specs.Prelude.{◌≡◌};
 ghost use Rattle.openjoc_bitio.specs.Cursor.{whole_slice, bits_remaining};
 ghost use Rattle.openjoc_bit_reader.specs.Reader.{bits_step, bit_step, window_step, align_step};

@@ -1,4 +1,3 @@
-use borrow.Author.Rules.{rules}
 use Rattle.emdf_answers.specs.Bits.{align_reply}
 use Rattle.emdf_answers.proofs.align_reply.Goals as goal
 

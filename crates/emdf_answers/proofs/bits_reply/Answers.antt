@@ -1,4 +1,3 @@
-use borrow.Author.Rules.{rules}
 use Rattle.emdf_answers.specs.Bits.{bits_reply}
 use Rattle.emdf_answers.proofs.bits_reply.Goals as goal
 

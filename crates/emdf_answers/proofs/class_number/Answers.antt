@@ -1,9 +1,5 @@
-use borrow.Author.Rules.{rules}
 use mathlib.Core.Path.{◌≡◌, refl}
-use mathlib.Core.Logic.{⊎_elim}
-use native.Mathlib.Omega.{arith}
 use Rattle.openjoc_emdf.specs.declared.CarrierClassification.{CarrierClassification}
-use Rattle.openjoc_emdf.specs.declared.CarrierClassification.TheVariants as CarrierClassification
 use Rattle.emdf_answers.specs.Carriers.{class_reply}
 use Rattle.emdf_answers.proofs.class_number.Goals as goal
 

@@ -1,4 +1,3 @@
-use borrow.Author.Rules.{rules}
 use mathlib.Core.Path.{◌∙◌}
 use Rattle.emdf_answers.specs.Replies.{padded}
 use Rattle.emdf_answers.specs.Carriers.{class_reply}

@@ -1,4 +1,3 @@
-use borrow.Author.Rules.{rules}
 use Rattle.emdf_answers.proofs.Carriers.{config-listed}
 use Rattle.emdf_answers.proofs.config_words.Goals as goal
 

@@ -1,4 +1,3 @@
-use borrow.Author.Rules.{rules}
 use Rattle.emdf_answers.specs.Edits.{edited_figures}
 use Rattle.emdf_answers.proofs.edited_figures.Goals as goal
 

@@ -1,4 +1,3 @@
-use borrow.Author.Rules.{rules}
 use Rattle.emdf_answers.specs.Fields.{field_reply}
 use Rattle.emdf_answers.proofs.field_reply.Goals as goal
 

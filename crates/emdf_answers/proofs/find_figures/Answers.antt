@@ -1,4 +1,3 @@
-use borrow.Author.Rules.{rules}
 use Rattle.emdf_answers.proofs.find_figures.Goals as goal
 
 pub returns-in-Place : goal.returns-in-Place

@@ -1,4 +1,3 @@
-use borrow.Author.Rules.{rules}
 use Rattle.emdf_answers.specs.Carriers.{move_figures}
 use Rattle.emdf_answers.proofs.move_figures.Goals as goal
 

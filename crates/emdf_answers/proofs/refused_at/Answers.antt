@@ -1,4 +1,3 @@
-use borrow.Author.Rules.{rules}
 use Rattle.emdf_answers.specs.Bits.{refused_at}
 use Rattle.emdf_answers.proofs.refused_at.Goals as goal
 

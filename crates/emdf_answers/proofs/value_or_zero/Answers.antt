@@ -1,4 +1,3 @@
-use borrow.Author.Rules.{rules}
 use Rattle.emdf_answers.specs.Carriers.{optional_words}
 use Rattle.emdf_answers.proofs.value_or_zero.Goals as goal
 

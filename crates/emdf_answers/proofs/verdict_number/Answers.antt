@@ -1,4 +1,3 @@
-use borrow.Author.Rules.{rules}
 use Rattle.emdf_answers.specs.Verdict.{verdict_reply}
 use Rattle.emdf_answers.proofs.verdict_number.Goals as goal
 

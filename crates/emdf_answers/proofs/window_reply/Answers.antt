@@ -1,4 +1,3 @@
-use borrow.Author.Rules.{rules}
 use Rattle.emdf_answers.specs.Bits.{window_reply}
 use Rattle.emdf_answers.proofs.window_reply.Goals as goal
 

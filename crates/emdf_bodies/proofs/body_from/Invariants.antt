@@ -1,9 +1,7 @@
 use mathlib.Core.List.{List}
-use mathlib.Core.Path.{refl, sym, ◌∙◌}
-use borrow.Author.Rules.{rules}
 use Rattle.emdf_format.specs.Reading.{Found}
 use Rattle.emdf_payloads.specs.Payloads.{Listed}
-use Rattle.emdf_bodies.proofs.Place.{Ahead, span-runs, body-here, body-later, no_body, not-refused}
+use Rattle.emdf_bodies.proofs.Place.{Ahead}
 use Rattle.emdf_bodies.proofs.body_from.Given as goal
 
 abbrev pub invariant-loop-record : goal.invariant-loop-record

@@ -1,4 +1,3 @@
-use borrow.Author.Rules.{rules}
 use Rattle.emdf_compact.specs.Words.{codec_span, compact_config}
 use Rattle.emdf_compact.proofs.compact_config.Goals as goal
 

@@ -1,4 +1,3 @@
-use borrow.Author.Rules.{rules}
 use Rattle.emdf_compact.specs.Words.{compact_controls}
 use Rattle.emdf_compact.proofs.compact_controls.Goals as goal
 

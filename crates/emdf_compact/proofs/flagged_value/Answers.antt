@@ -1,4 +1,3 @@
-use borrow.Author.Rules.{rules}
 use borrow.Author.Tests.{eq-eqb, ne_eqb}
 use Rattle.emdf_compact.specs.Words.{flagged_value}
 use Rattle.emdf_compact.proofs.flagged_value.Goals as goal

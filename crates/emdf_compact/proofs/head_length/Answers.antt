@@ -1,4 +1,3 @@
-use borrow.Author.Rules.{rules}
 use borrow.Author.Tests.{eq-eqb, ne_eqb}
 use Rattle.emdf_compact.specs.Words.{grouped_head}
 use Rattle.emdf_compact.proofs.head_length.Goals as goal

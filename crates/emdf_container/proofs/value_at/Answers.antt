@@ -1,4 +1,3 @@
-use borrow.Author.Rules.{rules}
 use mathlib.Core.Path.{sym, ◌∙◌}
 use Rattle.emdf_container.proofs.Octets.{value_read, value-unread}
 use Rattle.emdf_container.proofs.value_at.Goals as goal

@@ -1,4 +1,3 @@
-use borrow.Author.Rules.{rules}
 use Rattle.emdf_container.proofs.Words.{word_value}
 use Rattle.emdf_container.proofs.word_at.Goals as goal
 

@@ -1,4 +1,3 @@
-use borrow.Author.Rules.{rules}
 use Rattle.emdf_request.specs.Requests.{edit_of}
 use Rattle.emdf_edit.proofs.drop_payload.Goals as goal
 

@@ -1,4 +1,3 @@
-use borrow.Author.Rules.{rules}
 use native.Mathlib.Omega.{arith}
 use Rattle.emdf_request.specs.Requests.{bringing}
 use Rattle.emdf_field_writer.proofs.Putting.{none-put}

@@ -1,4 +1,3 @@
-use borrow.Author.Rules.{rules}
 use native.Mathlib.Omega.{arith}
 use Rattle.emdf_field_writer.proofs.Putting.{room-first, room_next, then-put, groups-field}
 use Rattle.emdf_field_writer.proofs.put_body.Goals as goal

@@ -1,4 +1,3 @@
-use borrow.Author.Rules.{rules}
 use Rattle.emdf_format.specs.Syntax.{◌⨟◌}
 use Rattle.emdf_format.specs.Contents.{codec_data_bits}
 use Rattle.emdf_field_writer.specs.Fields.{Room, controls_bits}

@@ -1,4 +1,3 @@
-use borrow.Author.Rules.{rules}
 use native.Mathlib.Omega.{arith}
 use Rattle.emdf_format.specs.Syntax.{variable_field}
 use Rattle.emdf_field_writer.proofs.Putting.{room-same, room-first, room_next, then-put}

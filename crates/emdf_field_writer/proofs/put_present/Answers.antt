@@ -1,4 +1,3 @@
-use borrow.Author.Rules.{rules}
 use Rattle.openjoc_bitio.specs.Bits.{number_bits}
 use Rattle.emdf_field_writer.proofs.Putting.{room-same, none-put}
 use Rattle.emdf_field_writer.proofs.Settings.{field-absent, field-present}

@@ -1,4 +1,3 @@
-use borrow.Author.Rules.{rules}
 use native.Mathlib.Omega.{arith}
 use Rattle.openjoc_bitio.proofs.Bits.{length-number}
 use Rattle.emdf_format.specs.Syntax.{◌⨟◌, octet_bits}
@@ -23,16 +22,16 @@ pub put_octets-next-requires : goal.put_octets-next-requires
 put_octets-next-requires c =
     let after-codes : let a = c.args in
     Room c.put_field-codes.new.out c.put_field-codes.result.0 (octet_bits a.primary.now ⨟ octet_bits a.secondary.now) = let a = c.args in
-        let e = c in
-        omega (arith, length-number 2 c.protection_code-2.result, length-number 2 e.protection_code.result, c.put_field-codes.ensures.0, c.put_field-codes.auto.out, e.put_field-first.ensures.0, e.put_field-first.auto.out, length-protection a.primary.now a.secondary.now, length-then (octet_bits a.primary.now) (octet_bits a.secondary.now)) in
+    let e = c in
+    omega (arith, length-number 2 c.protection_code-2.result, length-number 2 e.protection_code.result, c.put_field-codes.ensures.0, c.put_field-codes.auto.out, e.put_field-first.ensures.0, e.put_field-first.auto.out, length-protection a.primary.now a.secondary.now, length-then (octet_bits a.primary.now) (octet_bits a.secondary.now)) in
     room-first _ _ _ (after-codes)
 
 pub put_octets-requires : goal.put_octets-requires
 put_octets-requires c =
     let after-codes : let a = c.args in
     Room c.put_field-codes.new.out c.put_field-codes.result.0 (octet_bits a.primary.now ⨟ octet_bits a.secondary.now) = let a = c.args in
-        let e = c in
-        omega (arith, length-number 2 c.protection_code-2.result, length-number 2 e.protection_code.result, c.put_field-codes.ensures.0, c.put_field-codes.auto.out, e.put_field-first.ensures.0, e.put_field-first.auto.out, length-protection a.primary.now a.secondary.now, length-then (octet_bits a.primary.now) (octet_bits a.secondary.now)) in
+    let e = c in
+    omega (arith, length-number 2 c.protection_code-2.result, length-number 2 e.protection_code.result, c.put_field-codes.ensures.0, c.put_field-codes.auto.out, e.put_field-first.ensures.0, e.put_field-first.auto.out, length-protection a.primary.now a.secondary.now, length-then (octet_bits a.primary.now) (octet_bits a.secondary.now)) in
     let d = c in
     room_next _ _ _ _ _ (after-codes) d.put_octets-next.ensures d.put_octets-next.auto.out
 

@@ -1,4 +1,3 @@
-use borrow.Author.Rules.{rules}
 use native.Mathlib.Omega.{arith}
 use Rattle.openjoc_bitio.specs.Bits.{number_bits}
 use Rattle.emdf_format.specs.Syntax.{◌⨟◌}
@@ -17,13 +16,13 @@ put_field-flag-requires c = (omega arith, room-first _ _ _ (room-same _ (offset-
 pub put_field-value-requires : goal.put_field-value-requires
 put_field-value-requires c =
     let after-flag : Room c.put_field-flag.new.out c.put_field-flag.result.0 (number_bits 11 c.in-Present.v ⨟ number_bits 1 0) = let d = c in
-        room_next _ _ _ _ _ (room-same _ (offset-set d.in-Present.is) d.requires) c.put_field-flag.ensures c.put_field-flag.auto.out in
+    room_next _ _ _ _ _ (room-same _ (offset-set d.in-Present.is) d.requires) c.put_field-flag.ensures c.put_field-flag.auto.out in
     (omega arith, room-first _ _ _ (after-flag))
 
 pub put_field-requires-in-Present : goal.put_field-requires-in-Present
 put_field-requires-in-Present c =
     let after-flag : Room c.put_field-flag.new.out c.put_field-flag.result.0 (number_bits 11 c.in-Present.v ⨟ number_bits 1 0) = let d = c in
-        room_next _ _ _ _ _ (room-same _ (offset-set d.in-Present.is) d.requires) c.put_field-flag.ensures c.put_field-flag.auto.out in
+    room_next _ _ _ _ _ (room-same _ (offset-set d.in-Present.is) d.requires) c.put_field-flag.ensures c.put_field-flag.auto.out in
     let d = c in
     (omega arith, room_next _ _ _ _ _ (after-flag) d.put_field-value.ensures d.put_field-value.auto.out)
 

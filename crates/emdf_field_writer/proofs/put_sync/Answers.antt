@@ -1,4 +1,3 @@
-use borrow.Author.Rules.{rules}
 use native.Mathlib.Omega.{arith}
 use Rattle.emdf_field_writer.proofs.Putting.{length-sync, sync-put}
 use Rattle.emdf_field_writer.proofs.put_sync.Goals as goal

@@ -1,4 +1,3 @@
-use borrow.Author.Rules.{rules}
 use native.Mathlib.Omega.{arith}
 use Rattle.emdf_format.specs.Syntax.{◌⨟◌, variable_field, flagged_field}
 use Rattle.emdf_field_writer.specs.Fields.{Room, timing_bits}

@@ -1,11 +1,8 @@
-use mathlib.Core.Path.{◌≡◌, refl, ◌∙◌}
+use mathlib.Core.Path.{◌≡◌}
 use Prim.Native.Nat.{◌-◌, ◌≤◌}
-use native.Mathlib.Omega.{arith}
 use lib.ListN.{length}
 use Rattle.openjoc_bitio.specs.Bits.{number_bits}
-use Rattle.openjoc_bitio.proofs.Bits.{length-number}
 use Rattle.emdf_field_writer.specs.Fields.{Put}
-use Rattle.emdf_field_writer.proofs.Putting.{none-put, zeros-put}
 use Rattle.emdf_field_writer.proofs.put_zeros.Given as goal
 
 -- those before the left ones are put

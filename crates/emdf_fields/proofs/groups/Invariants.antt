@@ -1,10 +1,7 @@
-use borrow.Author.Rules.{rules}
 use Prim.Native.Nat.{◌<◌}
-use mathlib.Core.Path.{◌≡◌, refl, sym, ◌∙◌}
-use native.Mathlib.Omega.{arith}
+use mathlib.Core.Path.{◌≡◌}
 use Rattle.emdf_format.specs.Reader.{groups_from}
 use Rattle.emdf_fields.specs.Fields.{field_answer}
-use Rattle.emdf_fields.proofs.Variable.{at_last, at-refused, at_more, more_left}
 use Rattle.emdf_fields.proofs.groups.Given as goal
 
 abbrev pub invariant-loop-value : goal.invariant-loop-value

@@ -1,4 +1,3 @@
-use borrow.Author.Rules.{rules}
 use lib.Pow.{shr_le}
 use borrow.Author.Tests.{lt-ltb, le-ltb}
 use native.Mathlib.Omega.{arith}

@@ -1,4 +1,3 @@
-use borrow.Author.Rules.{rules}
 use mathlib.Core.Path.{sym, ◌∙◌}
 use Rattle.emdf_format.specs.Reader.{bits, from_bits}
 use Rattle.openjoc_bitio.proofs.Cursor.{read_past}

@@ -1,4 +1,3 @@
-use borrow.Author.Rules.{rules}
 use Rattle.emdf_fields.proofs.refused_group.Goals as goal
 
 pub returns-in-Refused : goal.returns-in-Refused

@@ -1,4 +1,3 @@
-use borrow.Author.Rules.{rules}
 use Rattle.emdf_answers.specs.Bits.{new_reply}
 use Rattle.emdf_host.proofs.emdf_bit_cursor.Goals as goal
 

@@ -1,4 +1,3 @@
-use borrow.Author.Rules.{rules}
 use Rattle.emdf_answers.specs.Bits.{remaining_reply}
 use Rattle.emdf_host.proofs.emdf_bits_remaining.Goals as goal
 

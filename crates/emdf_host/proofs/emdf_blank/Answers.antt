@@ -1,4 +1,3 @@
-use borrow.Author.Rules.{rules}
 use Rattle.emdf_host.proofs.emdf_blank.Goals as goal
 
 pub returns : goal.returns

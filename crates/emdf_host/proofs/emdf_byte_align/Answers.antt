@@ -1,4 +1,3 @@
-use borrow.Author.Rules.{rules}
 use Rattle.emdf_answers.specs.Bits.{byte_align_reply}
 use Rattle.emdf_host.proofs.emdf_byte_align.Goals as goal
 

@@ -1,4 +1,3 @@
-use borrow.Author.Rules.{rules}
 use Rattle.emdf_answers.specs.Bits.{read_bit_reply}
 use Rattle.emdf_host.proofs.emdf_read_bit.Goals as goal
 

@@ -1,4 +1,3 @@
-use borrow.Author.Rules.{rules}
 use Rattle.emdf_answers.specs.Bits.{take_bits_reply}
 use Rattle.emdf_host.proofs.emdf_take_bits.Goals as goal
 

@@ -1,4 +1,3 @@
-use borrow.Author.Rules.{rules}
 use Rattle.emdf_answers.specs.Fields.{variable_bits_reply}
 use Rattle.emdf_host.proofs.emdf_variable_bits.Goals as goal
 

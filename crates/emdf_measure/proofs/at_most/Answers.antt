@@ -1,4 +1,3 @@
-use borrow.Author.Rules.{rules}
 use Rattle.emdf_format.specs.Contents.{when_present, up_to}
 use Rattle.emdf_measure.proofs.at_most.Goals as goal
 

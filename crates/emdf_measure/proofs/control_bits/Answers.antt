@@ -1,4 +1,3 @@
-use borrow.Author.Rules.{rules}
 use native.Mathlib.Omega.{arith}
 use Rattle.emdf_measure.specs.Parts.{control_bits}
 use Rattle.emdf_measure.proofs.control_bits.Goals as goal

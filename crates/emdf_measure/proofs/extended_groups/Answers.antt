@@ -1,4 +1,3 @@
-use borrow.Author.Rules.{rules}
 use borrow.Author.Tests.{lt-ltb, le-ltb}
 use Rattle.emdf_format.specs.Syntax.{extended_groups}
 use Rattle.emdf_measure.proofs.extended_groups.Goals as goal

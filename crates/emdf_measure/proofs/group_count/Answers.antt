@@ -1,4 +1,4 @@
-use Prim.Native.Nat.{◌+◌, ◌-◌}
+use Prim.Native.Nat.{◌-◌}
 use lib.Pow.{shr_le}
 use mathlib.Core.Path.{◌≡◌}
 use native.Mathlib.Omega.{arith}

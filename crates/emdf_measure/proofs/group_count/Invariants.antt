@@ -1,9 +1,6 @@
-use Prim.Native.Nat.{◌+◌, ◌-◌}
-use lib.Pow.{shr_le}
+use Prim.Native.Nat.{◌+◌}
 use mathlib.Core.Path.{◌≡◌}
-use native.Mathlib.Omega.{arith}
 use Rattle.emdf_format.specs.Syntax.{count_before, groups}
-use Rattle.emdf_measure.proofs.Asked.{count-more, groups-few}
 use Rattle.emdf_measure.proofs.group_count.Given as goal
 
 abbrev pub invariant-loop-left : goal.invariant-loop-left

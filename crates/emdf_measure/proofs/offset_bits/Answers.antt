@@ -1,4 +1,3 @@
-use borrow.Author.Rules.{rules}
 use native.Mathlib.Omega.{arith}
 use Rattle.emdf_format.specs.Contents.{flagged_bits}
 use Rattle.emdf_measure.proofs.offset_bits.Goals as goal

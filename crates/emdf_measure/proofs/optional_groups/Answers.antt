@@ -1,4 +1,3 @@
-use borrow.Author.Rules.{rules}
 use Rattle.emdf_format.specs.Groups.{optional_groups}
 use Rattle.emdf_measure.proofs.optional_groups.Goals as goal
 

@@ -1,4 +1,3 @@
-use borrow.Author.Rules.{rules}
 use borrow.Author.Tests.{le-leb, lt-leb}
 use Rattle.emdf_format.specs.Contents.{up_to, writable_config}
 use Rattle.emdf_format.proofs.Standing.{fails, holds}

@@ -1,4 +1,3 @@
-use borrow.Author.Rules.{rules}
 use Rattle.emdf_format.proofs.Standing.{fails, holds}
 use Rattle.emdf_measure.specs.Parts.{writable_controls}
 use Rattle.emdf_measure.proofs.Asked.{stop, go, ruled-by}

@@ -1,18 +1,10 @@
-use borrow.Author.Rules.{rules}
-use Prim.Native.Nat.{◌+◌, ◌≤◌}
-use mathlib.Core.Path.{◌≡◌, sym, ◌∙◌}
+use Prim.Native.Nat.{◌≤◌}
 use mathlib.Core.List.{List}
-use mathlib.Core.Logic.{⊎_elim}
-use native.Mathlib.Omega.{arith}
-use lib.Dec.{eqb}
-use Rattle.std.specs.Prelude.{if◌then◌else◌}
 use Rattle.openjoc_bitio.specs.Cursor.{bits_remaining}
 use Rattle.emdf_format.specs.Reading.{Found}
 use Rattle.emdf_format.specs.Ordinals.{rows_of, find_in}
-use Rattle.emdf_payloads.proofs.Turns.{at-payload}
 use Rattle.emdf_payloads.specs.Payloads.{Listed}
-use Rattle.emdf_payloads.proofs.Walk.{skip-past, skip-end, skip-refused}
-use Rattle.emdf_ordinals.proofs.Find.{Looking, looking-all, looked-found, looked-past, looked-ended, never-refused, one_more, no_more, seen-within}
+use Rattle.emdf_ordinals.proofs.Find.{Looking}
 use Rattle.emdf_ordinals.proofs.find_from.Given as goal
 
 abbrev pub invariant-loop-found : goal.invariant-loop-found

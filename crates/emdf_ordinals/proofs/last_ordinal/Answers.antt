@@ -1,8 +1,7 @@
-use Prim.Native.Nat.{ℕ, ◌+◌, ◌-◌, ◌*◌, ◌≤◌}
+use Prim.Native.Nat.{ℕ, ◌+◌, ◌-◌, ◌*◌}
 use mathlib.Core.Path.{◌≡◌, refl, sym, ap, ◌∙◌}
 use native.Mathlib.Omega.{arith}
 use Rattle.openjoc_bitio.specs.Bits.{bits_value}
-use Rattle.emdf_ordinals.specs.Rows.{last_ordinal, column_at}
 use Rattle.emdf_ordinals.proofs.Rows.{none_left, last-here, last-before, row-start, row_within}
 use Rattle.emdf_ordinals.proofs.last_ordinal.Goals as goal
 

@@ -1,9 +1,6 @@
-use Prim.Native.Nat.{ℕ, ◌+◌, ◌-◌, ◌*◌, ◌≤◌}
-use mathlib.Core.Path.{◌≡◌, refl, sym, ap, ◌∙◌}
-use native.Mathlib.Omega.{arith}
-use Rattle.openjoc_bitio.specs.Bits.{bits_value}
+use Prim.Native.Nat.{◌*◌, ◌≤◌}
+use mathlib.Core.Path.{◌≡◌}
 use Rattle.emdf_ordinals.specs.Rows.{last_ordinal, column_at}
-use Rattle.emdf_ordinals.proofs.Rows.{none_left, last-here, last-before, row-start, row_within}
 use Rattle.emdf_ordinals.proofs.last_ordinal.Given as goal
 
 abbrev pub invariant-loop-left : goal.invariant-loop-left

@@ -1,4 +1,3 @@
-use borrow.Author.Rules.{rules}
 use borrow.Author.Tests.{eq-eqb, ne_eqb}
 use Rattle.emdf_payloads.specs.Compact.{compact_groups}
 use Rattle.emdf_payload_list.proofs.compact_groups.Goals as goal

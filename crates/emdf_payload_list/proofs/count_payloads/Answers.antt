@@ -1,10 +1,6 @@
-use borrow.Author.Rules.{rules}
-use Prim.Native.Nat.{◌≤◌}
-use mathlib.Core.Path.{◌≡◌, refl, sym, ◌∙◌}
+use mathlib.Core.Path.{refl, sym, ◌∙◌}
 use native.Mathlib.Omega.{arith}
-use Rattle.openjoc_bitio.specs.Cursor.{bits_remaining}
-use Rattle.emdf_format.specs.Reading.{payloads}
-use Rattle.emdf_payload_list.proofs.Counting.{count_from, count-all, at-end, at-refused, at-payload, count_past, count-end, count-refused}
+use Rattle.emdf_payload_list.proofs.Counting.{count-all, at-end, at-refused, at-payload, count_past, count-end, count-refused}
 use Rattle.emdf_payload_list.proofs.count_payloads.Goals as goal
 
 pub loop-most-init : goal.loop-most-init

@@ -1,4 +1,3 @@
-use borrow.Author.Rules.{rules}
 use Rattle.emdf_payload_list.specs.List.{list_step}
 use Rattle.emdf_payload_list.proofs.list_step.Goals as goal
 

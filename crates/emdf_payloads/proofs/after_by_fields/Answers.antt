@@ -1,4 +1,3 @@
-use borrow.Author.Rules.{rules}
 use mathlib.Core.Path.{sym, ◌∙◌}
 use Rattle.emdf_format.specs.Reader.{give}
 use Rattle.emdf_format.specs.Reading.{payload_after}

@@ -1,4 +1,3 @@
-use borrow.Author.Rules.{rules}
 use borrow.Author.Tests.{eq-eqb, ne_eqb}
 use mathlib.Core.Path.{◌≡◌, sym, ap, ◌∙◌}
 use mathlib.Core.List.{List}
@@ -15,10 +14,13 @@ use Rattle.emdf_payloads.proofs.compact_parts.Goals as goal
 module _ (s : List ℕ) (p r w : ℕ) (e : w ≡ head_at s p) (h : r ≡ grouped_head w) where
   grouped-is : r ≡ grouped_head (head_at s p)
   grouped-is = h ∙ ap grouped_head e
+
   head-is : r % 128 ≡ head_length (head_at s p)
   head-is = ap (λ (n : ℕ). n % 128) grouped-is ∙ grouped-head (head_at s p)
+
   none_is : r ≡ 0 → head_length (head_at s p) ≡ 0
   none_is z = sym head-is ∙ ap (λ (n : ℕ). n % 128) z
+
   some_is : (r ≡ 0 → ⊥) → head_length (head_at s p) ≡ 0 → ⊥
   some_is f z = f (grouped-is ∙ grouped-none (head_at s p) z)
 

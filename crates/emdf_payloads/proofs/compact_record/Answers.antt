@@ -1,4 +1,3 @@
-use borrow.Author.Rules.{rules}
 use Rattle.emdf_payloads.proofs.compact_record.Goals as goal
 
 pub returns : goal.returns

@@ -1,4 +1,3 @@
-use borrow.Author.Rules.{rules}
 use Rattle.emdf_payloads.specs.Payloads.{skip_of}
 use Rattle.emdf_payloads.proofs.skipped.Goals as goal
 

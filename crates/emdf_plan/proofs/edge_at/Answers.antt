@@ -1,4 +1,3 @@
-use borrow.Author.Rules.{rules}
 use Rattle.emdf_plan.proofs.edge_at.Goals as goal
 
 pub returns-in-Key : goal.returns-in-Key

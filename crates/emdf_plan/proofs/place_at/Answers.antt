@@ -1,5 +1,4 @@
 use mathlib.Core.Path.{sym, ◌∙◌}
-use borrow.Author.Rules.{rules}
 use Rattle.emdf_plan.proofs.place_at.Goals as goal
 
 pub returns-in-Payload : goal.returns-in-Payload

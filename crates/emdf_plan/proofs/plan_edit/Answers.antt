@@ -1,4 +1,3 @@
-use borrow.Author.Rules.{rules}
 use mathlib.Core.Path.{sym, ◌∙◌}
 use Rattle.openjoc_emdf.proofs.Opening.{opened, unopened}
 use Rattle.emdf_plan.proofs.Asking.{unread}

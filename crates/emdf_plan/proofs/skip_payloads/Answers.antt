@@ -1,6 +1,5 @@
 use mathlib.Core.Path.{◌≡◌, refl}
 use Prim.Native.Nat.{suc, ◌-◌}
-use borrow.Author.Rules.{rules}
 use native.Mathlib.Omega.{arith}
 use Rattle.emdf_plan.specs.Walking.{past_payloads}
 use Rattle.emdf_plan.proofs.skip_payloads.Goals as goal

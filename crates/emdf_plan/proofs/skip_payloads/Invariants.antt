@@ -1,7 +1,4 @@
-use mathlib.Core.Path.{◌≡◌, refl}
-use Prim.Native.Nat.{suc, ◌-◌}
-use borrow.Author.Rules.{rules}
-use native.Mathlib.Omega.{arith}
+use mathlib.Core.Path.{◌≡◌}
 use Rattle.emdf_plan.specs.Walking.{past_payloads}
 use Rattle.emdf_plan.proofs.skip_payloads.Given as goal
 

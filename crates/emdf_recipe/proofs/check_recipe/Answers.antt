@@ -1,11 +1,9 @@
-use borrow.Author.Rules.{rules}
 use mathlib.Core.Path.{sym, ◌∙◌}
-use Prim.Native.Nat.{◌<◌}
 use native.Mathlib.Omega.{arith}
 use borrow.Author.Tests.{lt-leb, le-leb}
 use Rattle.openjoc_bitio.proofs.Bits.{value-range}
 use Rattle.emdf_recipe.specs.File.{recipe_of, edits_after}
-use Rattle.emdf_recipe.proofs.File.{Going, above, link-next, rises-above, going_start, going_on, going-broken, going_end}
+use Rattle.emdf_recipe.proofs.File.{link-next, rises-above, going_start, going_on, going-broken, going_end}
 use Rattle.emdf_recipe.proofs.check_recipe.Goals as goal
 
 pub returns-then-file-lt-HEAD : goal.returns-then-file-lt-HEAD

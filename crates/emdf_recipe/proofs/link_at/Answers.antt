@@ -1,5 +1,4 @@
-use borrow.Author.Rules.{rules}
-use borrow.Author.Tests.{le-leb, lt-leb, not-true, not-false}
+use borrow.Author.Tests.{le-leb, lt-leb}
 use Rattle.emdf_recipe.specs.File.{link_of}
 use Rattle.emdf_recipe.proofs.File.{record-small}
 use Rattle.emdf_recipe.proofs.link_at.Goals as goal

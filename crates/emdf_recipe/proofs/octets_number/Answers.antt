@@ -1,4 +1,3 @@
-use borrow.Author.Rules.{rules}
 use native.Mathlib.Omega.{arith}
 use Rattle.emdf_recipe.proofs.File.{window-number}
 use Rattle.emdf_recipe.proofs.octets_number.Goals as goal

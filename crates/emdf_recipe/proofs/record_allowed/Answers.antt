@@ -1,4 +1,3 @@
-use borrow.Author.Rules.{rules}
 use borrow.Author.Tests.{eq-eqb, ne_eqb, le-leb, lt-leb}
 use Rattle.emdf_format.specs.Contents.{◌&◌}
 use Rattle.emdf_recipe.specs.File.{record_allowed}

@@ -1,4 +1,3 @@
-use borrow.Author.Rules.{rules}
 use Rattle.emdf_recipe.specs.File.{record_at}
 use Rattle.emdf_recipe.proofs.record_at.Goals as goal
 

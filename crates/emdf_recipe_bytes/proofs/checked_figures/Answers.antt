@@ -1,4 +1,3 @@
-use borrow.Author.Rules.{rules}
 use Rattle.emdf_recipe_bytes.proofs.checked_figures.Goals as goal
 
 pub returns-in-Edits : goal.returns-in-Edits

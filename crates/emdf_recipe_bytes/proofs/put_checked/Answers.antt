@@ -1,4 +1,3 @@
-use borrow.Author.Rules.{rules}
 use Rattle.emdf_recipe_bytes.proofs.put_checked.Goals as goal
 
 pub returns : goal.returns

@@ -1,4 +1,3 @@
-use borrow.Author.Rules.{rules}
 use Rattle.emdf_answers.specs.Replies.{padded}
 use Rattle.emdf_recipe_bytes.proofs.put_ran.Goals as goal
 

@@ -1,4 +1,3 @@
-use borrow.Author.Rules.{rules}
 use Rattle.emdf_recipe_run.specs.Runs.{counted}
 use Rattle.emdf_recipe_run.proofs.count_in.Goals as goal
 

@@ -1,4 +1,3 @@
-use borrow.Author.Rules.{rules}
 use borrow.Author.Tests.{eq-eqb, ne_eqb}
 use Rattle.emdf_recipe_run.specs.Requests.{request_of}
 use Rattle.emdf_recipe_run.proofs.request_of.Goals as goal

@@ -1,15 +1,14 @@
-use borrow.Author.Rules.{rules}
 use mathlib.Core.Path.{ap}
 use mathlib.Core.List.{List}
-use Prim.Native.Nat.{ℕ, ◌≤◌, ◌<◌}
+use Prim.Native.Nat.{ℕ, ◌≤◌}
 use native.Mathlib.Omega.{arith}
 use lib.ListN.{length}
 use Rattle.openjoc_bitio.proofs.Bits.{value-range}
 use Rattle.emdf_recipe.specs.declared.RecipeRecord.{RecipeRecord}
 use Rattle.emdf_recipe.specs.File.{record_count}
-use Rattle.emdf_recipe.proofs.File.{Chained, above, record-small}
+use Rattle.emdf_recipe.proofs.File.{Chained, record-small}
 use Rattle.emdf_recipe_run.specs.Runs.{begun, begun_answer}
-use Rattle.emdf_recipe_run.proofs.Runs.{span-inside, asked, Running, running-start, here, rising, running-go, running-end}
+use Rattle.emdf_recipe_run.proofs.Runs.{span-inside, asked, running-start, here, rising, running-go, running-end}
 use Rattle.emdf_recipe_run.proofs.run_chain.Goals as goal
 
 pub loop-i-init : goal.loop-i-init

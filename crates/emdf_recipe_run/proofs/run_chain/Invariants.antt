@@ -1,15 +1,7 @@
-use borrow.Author.Rules.{rules}
-use mathlib.Core.Path.{ap}
-use mathlib.Core.List.{List}
-use Prim.Native.Nat.{ℕ, ◌≤◌, ◌<◌}
-use native.Mathlib.Omega.{arith}
-use lib.ListN.{length}
-use Rattle.openjoc_bitio.proofs.Bits.{value-range}
-use Rattle.emdf_recipe.specs.declared.RecipeRecord.{RecipeRecord}
+use Prim.Native.Nat.{◌<◌}
 use Rattle.emdf_recipe.specs.File.{record_count}
-use Rattle.emdf_recipe.proofs.File.{Chained, above, record-small}
-use Rattle.emdf_recipe_run.specs.Runs.{begun, begun_answer}
-use Rattle.emdf_recipe_run.proofs.Runs.{span-inside, asked, Running, running-start, here, rising, running-go, running-end}
+use Rattle.emdf_recipe.proofs.File.{above}
+use Rattle.emdf_recipe_run.proofs.Runs.{Running}
 use Rattle.emdf_recipe_run.proofs.run_chain.Given as goal
 
 abbrev pub invariant-loop-i : goal.invariant-loop-i

@@ -1,4 +1,3 @@
-use borrow.Author.Rules.{rules}
 use lib.Seq.{length-take-le}
 use mathlib.Core.Path.{sym}
 use Rattle.emdf_recipe_run.specs.declared.Holder.TheVariants.{Start, First, Second}

@@ -1,4 +1,3 @@
-use borrow.Author.Rules.{rules}
 use mathlib.Core.Path.{sym, ◌∙◌}
 use Rattle.emdf_recipe_run.proofs.Runs.{checked-edits, ran-all, refused_all}
 use Rattle.emdf_recipe_run.proofs.run_recipe.Goals as goal

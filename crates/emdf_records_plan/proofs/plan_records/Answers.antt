@@ -1,4 +1,3 @@
-use borrow.Author.Rules.{rules}
 use mathlib.Core.Path.{sym, ◌∙◌}
 use Rattle.emdf_records_plan.proofs.Records.{opened, refused}
 use Rattle.emdf_records_plan.proofs.plan_records.Goals as goal

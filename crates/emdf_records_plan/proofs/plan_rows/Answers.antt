@@ -1,4 +1,3 @@
-use borrow.Author.Rules.{rules}
 use borrow.Author.Tests.{le-leb, lt-leb}
 use Rattle.emdf_records_plan.specs.Records.{rows_plan}
 use Rattle.emdf_records_plan.proofs.plan_rows.Goals as goal

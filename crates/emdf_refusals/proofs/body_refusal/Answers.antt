@@ -1,4 +1,3 @@
-use borrow.Author.Rules.{rules}
 use Rattle.emdf_refusals.proofs.body_refusal.Goals as goal
 
 pub returns-in-ScratchTooShort : goal.returns-in-ScratchTooShort

@@ -1,4 +1,3 @@
-use borrow.Author.Rules.{rules}
 use Rattle.emdf_refusals.proofs.edit_refusal.Goals as goal
 
 pub returns-in-DestinationTooShort : goal.returns-in-DestinationTooShort

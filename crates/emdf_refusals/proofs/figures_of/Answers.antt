@@ -1,4 +1,3 @@
-use borrow.Author.Rules.{rules}
 use Rattle.emdf_refusals.proofs.figures_of.Goals as goal
 
 pub returns-in-Bare : goal.returns-in-Bare

@@ -1,4 +1,3 @@
-use borrow.Author.Rules.{rules}
 use Rattle.emdf_refusals.proofs.profile_refusal.Goals as goal
 
 pub returns-in-PayloadCount : goal.returns-in-PayloadCount

@@ -1,4 +1,3 @@
-use borrow.Author.Rules.{rules}
 use Rattle.emdf_refusals.proofs.records_refusal.Goals as goal
 
 pub returns-in-TableTooShort : goal.returns-in-TableTooShort

@@ -1,4 +1,3 @@
-use borrow.Author.Rules.{rules}
 use Rattle.emdf_refusals.proofs.refusal_of.Goals as goal
 
 pub returns-in-Header : goal.returns-in-Header

@@ -1,4 +1,3 @@
-use borrow.Author.Rules.{rules}
 use Rattle.emdf_format.specs.Edits.{place_exists}
 use Rattle.emdf_request.specs.Requests.{edit_of}
 use Rattle.emdf_request.proofs.place_exists.Goals as goal

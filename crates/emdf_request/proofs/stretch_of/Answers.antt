@@ -1,4 +1,3 @@
-use borrow.Author.Rules.{rules}
 use Rattle.emdf_request.proofs.stretch_of.Goals as goal
 
 pub returns-in-Body : goal.returns-in-Body

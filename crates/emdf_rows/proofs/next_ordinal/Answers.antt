@@ -1,4 +1,3 @@
-use borrow.Author.Rules.{rules}
 use Prim.Native.Nat.{ℕ}
 use mathlib.Core.Path.{◌≡◌, ap, ◌∙◌}
 use native.Mathlib.Omega.{arith}
@@ -15,11 +14,11 @@ last_ordinal-last-requires c =
 pub overflow_add-result : goal.overflow_add-result
 overflow_add-result c =
     let found : c.last_ordinal-last.result ≡ last_in c.args.table.now c.args.slots.now c.args.place c.args.id = let a = c.args in
-        c.last_ordinal-last.ensures ∙ ap (λ (n : ℕ). last_ordinal (id_column a.table.now) (ordinal_column a.table.now) a.id n) c.take_slot-rows.ensures.0 in
+    c.last_ordinal-last.ensures ∙ ap (λ (n : ℕ). last_ordinal (id_column a.table.now) (ordinal_column a.table.now) a.id n) c.take_slot-rows.ensures.0 in
     let d = c in omega (arith, found, d.requires.0, (d.requires.1 d.args.id).1)
 
 pub returns : goal.returns
 returns c =
     let found : c.last_ordinal-last.result ≡ last_in c.args.table.now c.args.slots.now c.args.place c.args.id = let a = c.args in
-        c.last_ordinal-last.ensures ∙ ap (λ (n : ℕ). last_ordinal (id_column a.table.now) (ordinal_column a.table.now) a.id n) c.take_slot-rows.ensures.0 in
+    c.last_ordinal-last.ensures ∙ ap (λ (n : ℕ). last_ordinal (id_column a.table.now) (ordinal_column a.table.now) a.id n) c.take_slot-rows.ensures.0 in
     (omega (arith, found), c.take_slot-rows.ensures.1)

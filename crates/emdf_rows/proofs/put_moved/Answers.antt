@@ -1,4 +1,3 @@
-use borrow.Author.Rules.{rules}
 use Rattle.emdf_rows.proofs.put_moved.Goals as goal
 
 pub returns : goal.returns

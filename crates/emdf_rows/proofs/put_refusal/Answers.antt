@@ -1,4 +1,3 @@
-use borrow.Author.Rules.{rules}
 use Rattle.emdf_answers.specs.Carriers.{read_reply}
 use Rattle.emdf_rows.proofs.put_refusal.Goals as goal
 

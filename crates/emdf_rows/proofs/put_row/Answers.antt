@@ -1,4 +1,3 @@
-use borrow.Author.Rules.{rules}
 use Rattle.emdf_rows.proofs.Rows.{row-stored}
 use Rattle.emdf_rows.proofs.put_row.Goals as goal
 

@@ -1,16 +1,8 @@
 use borrow.Author.Rules.{rules}
-use Prim.Native.Nat.{◌-◌, ◌≤◌}
-use mathlib.Core.Path.{◌≡◌, refl}
-use mathlib.Core.List.{List}
+use mathlib.Core.Path.{refl}
 use native.Mathlib.Omega.{arith}
-use lib.ListN.{length}
-use lib.Seq.{sets}
-use Rattle.emdf_format.specs.Reading.{Found}
-use Rattle.emdf_format.specs.Ordinals.{ids_in, rows_of}
 use Rattle.emdf_format.proofs.Ordinals.{length-ids-in}
-use Rattle.emdf_payloads.specs.Payloads.{Listed}
-use Rattle.emdf_answers.specs.Carriers.{rows_bytes}
-use Rattle.emdf_rows.proofs.Rows.{Left, left-all, left-searchable, left-payload, left_step, left-none}
+use Rattle.emdf_rows.proofs.Rows.{left-all, left-searchable, left-payload, left_step, left-none}
 use Rattle.emdf_rows.proofs.put_rows_with.Goals as goal
 
 pub loop-place-init : goal.loop-place-init

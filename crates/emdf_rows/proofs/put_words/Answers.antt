@@ -1,10 +1,8 @@
-use Prim.Native.Nat.{◌+◌, ◌-◌, ◌*◌, ◌≤◌}
 use mathlib.Core.Path.{◌≡◌, refl, sym, ap, ◌∙◌}
 use native.Mathlib.Nat.{add-zero}
 use native.Mathlib.Omega.{arith}
-use lib.ListN.{length, drop}
-use lib.Seq.{sets, length-sets}
-use Rattle.emdf_answers.specs.Form.{words}
+use lib.ListN.{length}
+use lib.Seq.{length-sets}
 use Rattle.emdf_rows.proofs.Stored.{word-stored, words-done}
 use Rattle.emdf_rows.proofs.put_words.Goals as goal
 

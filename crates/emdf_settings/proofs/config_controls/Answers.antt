@@ -1,4 +1,3 @@
-use borrow.Author.Rules.{rules}
 use mathlib.Core.Path.{refl, sym, ◌∙◌}
 use Rattle.emdf_settings.specs.Settings.{config_answer}
 use Rattle.emdf_settings.specs.declared.ConfigAnswer.TheVariants.{Refused}

@@ -1,4 +1,3 @@
-use borrow.Author.Rules.{rules}
 use borrow.Author.Tests.{eq-eqb, ne_eqb}
 use Rattle.emdf_format.specs.Contents.{◌&◌, has_aligned}
 use Rattle.emdf_settings.proofs.has_aligned.Goals as goal

@@ -1,4 +1,3 @@
-use borrow.Author.Rules.{rules}
 use Rattle.emdf_format.specs.Contents.{is_one}
 use Rattle.emdf_settings.proofs.is_one.Goals as goal
 

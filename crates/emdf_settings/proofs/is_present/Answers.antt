@@ -1,4 +1,3 @@
-use borrow.Author.Rules.{rules}
 use Rattle.emdf_format.specs.Contents.{is_present}
 use Rattle.emdf_settings.proofs.is_present.Goals as goal
 

@@ -1,4 +1,3 @@
-use borrow.Author.Rules.{rules}
 use Rattle.emdf_settings_bytes.specs.Settings.{config_of}
 use Rattle.emdf_settings_bytes.proofs.config_of.Goals as goal
 

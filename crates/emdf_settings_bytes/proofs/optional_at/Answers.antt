@@ -1,4 +1,3 @@
-use borrow.Author.Rules.{rules}
 use borrow.Author.Tests.{eq-eqb, ne_eqb}
 use Rattle.emdf_settings_bytes.specs.Settings.{optional_at}
 use Rattle.emdf_settings_bytes.proofs.optional_at.Goals as goal

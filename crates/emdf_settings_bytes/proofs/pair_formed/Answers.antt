@@ -1,4 +1,3 @@
-use borrow.Author.Rules.{rules}
 use borrow.Author.Tests.{eq-eqb, ne_eqb}
 use Rattle.emdf_settings_bytes.specs.Settings.{pair_formed}
 use Rattle.emdf_settings_bytes.proofs.pair_formed.Goals as goal

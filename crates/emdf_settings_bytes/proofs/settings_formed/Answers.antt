@@ -1,4 +1,3 @@
-use borrow.Author.Rules.{rules}
 use Rattle.emdf_format.proofs.Standing.{fails, holds}
 use Rattle.emdf_measure.proofs.Asked.{stop, go}
 use Rattle.emdf_settings_bytes.specs.Settings.{settings_formed}

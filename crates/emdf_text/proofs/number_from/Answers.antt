@@ -1,10 +1,5 @@
-use borrow.Author.Rules.{rules}
-use Prim.Native.Nat.{◌-◌}
-use mathlib.Core.Path.{◌≡◌, refl, sym, ◌∙◌}
+use mathlib.Core.Path.{refl, sym, ◌∙◌}
 use native.Mathlib.Numerals.{add-one}
-use native.Mathlib.Omega.{arith}
-use lib.ListN.{length, drop}
-use Rattle.emdf_text.specs.Text.{scan}
 use Rattle.emdf_text.specs.declared.DigitStep.TheVariants.{Next, End, TooLarge}
 use Rattle.emdf_text.proofs.Text.{after, scan_step, scan-end}
 use Rattle.emdf_text.proofs.number_from.Goals as goal

@@ -1,12 +1,7 @@
-use borrow.Author.Rules.{rules}
 use Prim.Native.Nat.{◌-◌}
-use mathlib.Core.Path.{◌≡◌, refl, sym, ◌∙◌}
-use native.Mathlib.Numerals.{add-one}
-use native.Mathlib.Omega.{arith}
+use mathlib.Core.Path.{◌≡◌}
 use lib.ListN.{length, drop}
 use Rattle.emdf_text.specs.Text.{scan}
-use Rattle.emdf_text.specs.declared.DigitStep.TheVariants.{Next, End, TooLarge}
-use Rattle.emdf_text.proofs.Text.{after, scan_step, scan-end}
 use Rattle.emdf_text.proofs.number_from.Given as goal
 
 abbrev pub invariant-loop-i : goal.invariant-loop-i

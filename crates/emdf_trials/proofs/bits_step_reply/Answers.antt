@@ -1,4 +1,3 @@
-use borrow.Author.Rules.{rules}
 use Rattle.emdf_trials.proofs.bits_step_reply.Goals as goal
 
 pub returns-in-Ok : goal.returns-in-Ok

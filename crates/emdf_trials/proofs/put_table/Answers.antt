@@ -1,11 +1,10 @@
-use mathlib.Core.Path.{◌≡◌, refl, ap, ◌∙◌}
-use Prim.Native.Nat.{◌-◌, ◌*◌, ◌≤◌, ◌<◌}
+use mathlib.Core.Path.{refl, ap, ◌∙◌}
+use Prim.Native.Nat.{◌<◌}
 use native.Mathlib.Omega.{arith}
-use lib.ListN.{length, take, drop}
-use lib.Seq.{sets, length-sets}
+use lib.ListN.{length}
+use lib.Seq.{length-sets}
 use native.Mathlib.Nat.{sub-zero}
 use Rattle.emdf_trials.proofs.Stored.{row-stored, rows-done}
-use Rattle.emdf_answers.specs.Carriers.{rows_bytes}
 use Rattle.emdf_trials.proofs.put_table.Goals as goal
 
 pub loop-i-init : goal.loop-i-init

@@ -1,10 +1,7 @@
-use mathlib.Core.Path.{◌≡◌, refl, ap, ◌∙◌}
-use Prim.Native.Nat.{◌-◌, ◌*◌, ◌≤◌, ◌<◌}
-use native.Mathlib.Omega.{arith}
+use mathlib.Core.Path.{◌≡◌}
+use Prim.Native.Nat.{◌-◌, ◌*◌, ◌≤◌}
 use lib.ListN.{length, take, drop}
-use lib.Seq.{sets, length-sets}
-use native.Mathlib.Nat.{sub-zero}
-use Rattle.emdf_trials.proofs.Stored.{row-stored, rows-done}
+use lib.Seq.{sets}
 use Rattle.emdf_answers.specs.Carriers.{rows_bytes}
 use Rattle.emdf_trials.proofs.put_table.Given as goal
 

@@ -1,4 +1,3 @@
-use borrow.Author.Rules.{rules}
 use Rattle.emdf_trials.proofs.Answers.{parsed-answers, refused-answers}
 use Rattle.emdf_trials.proofs.trial_parse.Goals as goal
 

@@ -1,4 +1,3 @@
-use borrow.Author.Rules.{rules}
 use mathlib.Core.Path.{ap, ◌∙◌}
 use Rattle.emdf_trials.specs.Trials.{told}
 use Rattle.emdf_trials.proofs.trial_put.Goals as goal

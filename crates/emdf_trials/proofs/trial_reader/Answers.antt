@@ -1,4 +1,3 @@
-use borrow.Author.Rules.{rules}
 use Rattle.emdf_trials.proofs.trial_reader.Goals as goal
 
 pub returns : goal.returns

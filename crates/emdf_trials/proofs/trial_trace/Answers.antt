@@ -1,4 +1,3 @@
-use borrow.Author.Rules.{rules}
 use Rattle.emdf_trials.proofs.Answers.{traced, untraced, rows_told}
 use Rattle.emdf_trials.proofs.trial_trace.Goals as goal
 

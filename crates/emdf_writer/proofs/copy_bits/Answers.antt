@@ -1,9 +1,7 @@
-use borrow.Author.Rules.{rules}
 use mathlib.Core.Bool.{true}
 use mathlib.Core.Path.{◌≡◌, sym, ◌∙◌}
 use Prim.Native.Nat.{◌+◌}
 use lib.Dec.{leb}
-use borrow.Author.Tests.{not-true, not-false}
 use Rattle.openjoc_bitio.specs.Cursor.{bit_length}
 use Rattle.emdf_writer.proofs.Fitting.{inside, run-away, run_out, run_in}
 use Rattle.emdf_writer.proofs.Plain.{as-bit-by-bit}

@@ -1,4 +1,3 @@
-use borrow.Author.Rules.{rules}
 use mathlib.Core.Path.{◌≡◌, sym, ◌∙◌}
 use Prim.Native.Nat.{◌-◌, ◌/◌, ◌^◌}
 use native.Mathlib.Omega.{arith}
@@ -13,13 +12,13 @@ returns-then-t-eq0 c = sym (run_none _ _ _ _ _ c.if-t-eq0.true)
 pub put_part-requires : goal.put_part-requires
 put_part-requires c =
     let value : let a = c.args in c.octet_at-octet.result / 2 ^ (8 - a.t) ≡ bits_value a.s.now a.from a.t = let a = c.args in
-        rw c.octet_at-octet.ensures (octet-part a.s.now a.from a.t (omega arith)) in
+    rw c.octet_at-octet.ensures (octet-part a.s.now a.from a.t (omega arith)) in
     (omega arith, rw (value) (value-range _ _ _), omega arith)
 
 pub returns : goal.returns
 returns c =
     let value : let a = c.args in c.octet_at-octet.result / 2 ^ (8 - a.t) ≡ bits_value a.s.now a.from a.t = let a = c.args in
-        rw c.octet_at-octet.ensures (octet-part a.s.now a.from a.t (omega arith)) in
+    rw c.octet_at-octet.ensures (octet-part a.s.now a.from a.t (omega arith)) in
     let w = c in
     let a = w.args in
     c.put_part.ensures ∙ rw (value, ← run_value a.s.now a.from a.t (omega arith))

@@ -1,11 +1,8 @@
 use mathlib.Core.Path.{◌≡◌, refl, sym, ap, ◌∙◌}
-use Prim.Native.Nat.{ℕ, ◌+◌, ◌-◌, ◌*◌, ◌≤◌}
+use Prim.Native.Nat.{ℕ, ◌+◌, ◌*◌}
 use native.Mathlib.Omega.{arith}
-use lib.ListN.{length, length-set}
-use lib.Seq.{sets}
+use lib.ListN.{length-set}
 use Rattle.openjoc_bitio.specs.Bits.{bits_value}
-use Rattle.emdf_format.specs.Syntax.{octet_bits}
-use Rattle.emdf_writer.specs.Writing.{bit_run}
 use Rattle.openjoc_bitio.proofs.Bits.{octet-value}
 use Rattle.emdf_writer.proofs.Run.{octets-start, octets-more, run_none}
 use Rattle.emdf_writer.proofs.copy_shifted.Goals as goal

@@ -1,13 +1,9 @@
-use mathlib.Core.Path.{◌≡◌, refl, sym, ap, ◌∙◌}
-use Prim.Native.Nat.{ℕ, ◌+◌, ◌-◌, ◌*◌, ◌≤◌}
-use native.Mathlib.Omega.{arith}
-use lib.ListN.{length, length-set}
+use mathlib.Core.Path.{◌≡◌}
+use Prim.Native.Nat.{◌+◌, ◌-◌, ◌*◌, ◌≤◌}
+use lib.ListN.{length}
 use lib.Seq.{sets}
-use Rattle.openjoc_bitio.specs.Bits.{bits_value}
 use Rattle.emdf_format.specs.Syntax.{octet_bits}
 use Rattle.emdf_writer.specs.Writing.{bit_run}
-use Rattle.openjoc_bitio.proofs.Bits.{octet-value}
-use Rattle.emdf_writer.proofs.Run.{octets-start, octets-more, run_none}
 use Rattle.emdf_writer.proofs.copy_shifted.Given as goal
 
 abbrev pub invariant-loop-k : goal.invariant-loop-k

@@ -1,6 +1,4 @@
-use borrow.Author.Rules.{rules}
 use mathlib.Core.Path.{sym, ◌∙◌}
-use borrow.Author.Tests.{not-true, not-false}
 use Rattle.emdf_writer.proofs.Fitting.{inside, number-wide, number-out, number_in}
 use Rattle.emdf_writer.proofs.put_number.Goals as goal
 

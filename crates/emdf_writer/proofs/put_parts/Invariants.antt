@@ -1,13 +1,9 @@
-use mathlib.Core.Path.{◌≡◌, refl, sym, ◌∙◌}
+use mathlib.Core.Path.{◌≡◌}
 use Prim.Native.Nat.{◌+◌, ◌≤◌}
-use native.Mathlib.Nat.{mod-lt}
-use native.Mathlib.Omega.{arith}
 use lib.ListN.{length}
-use lib.Pow.{pow_pos}
 use lib.Seq.{sets}
 use Rattle.openjoc_bitio.specs.Bits.{number_bits}
 use Rattle.emdf_format.specs.Syntax.{octet_bits}
-use Rattle.emdf_writer.proofs.Stored.{number_more, number-none}
 use Rattle.emdf_writer.proofs.put_parts.Given as goal
 
 abbrev pub invariant-loop-n : goal.invariant-loop-n

@@ -1,4 +1,3 @@
-use borrow.Author.Rules.{rules}
 use Rattle.emdf_writer.proofs.Stored.{u16-stored}
 use Rattle.emdf_writer.proofs.put_u16.Goals as goal
 

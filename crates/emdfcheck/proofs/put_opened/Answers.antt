@@ -1,4 +1,3 @@
-use borrow.Author.Rules.{rules}
 use native.Mathlib.Omega.{arith}
 use Rattle.emdf_text.proofs.Put.{both, put_as}
 use Rattle.emdfcheck.proofs.Class.{trailing, over-table, parsed-all, opened}
@@ -13,7 +12,7 @@ returns-then-count-gt-MOST_PAYLOADS c = put_as (c.put_line-then-count-gt-MOST_PA
 pub put_records-requires : goal.put_records-requires
 put_records-requires c =
     let p = c.put_line-end in
-    opened _ _ _ c.requires.0 c.if-n-length.false (omega (arith, (p.ensures.put (omega arith)).1, p.auto.0, c.if-count-gt-MOST_PAYLOADS.false, c.requires.1))
+    opened _ _ _ c.requires.0 c.if-n-length.false (omega (arith, (p.ensures.put (omega arith)).1, p.auto.out, c.if-count-gt-MOST_PAYLOADS.false, c.requires.1))
 
 pub returns : goal.returns
 returns c =

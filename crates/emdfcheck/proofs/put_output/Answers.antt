@@ -1,4 +1,3 @@
-use borrow.Author.Rules.{rules}
 use mathlib.Core.Path.{sym, ◌∙◌}
 use native.Mathlib.Omega.{arith}
 use Rattle.emdf_text.proofs.Put.{put_as, whole}
@@ -6,7 +5,9 @@ use Rattle.emdfcheck.proofs.Class.{too_long, in-limit, read-refused}
 use Rattle.emdfcheck.proofs.put_output.Goals as goal
 
 pub returns-then-bytes-gt-MOST_BYTES : goal.returns-then-bytes-gt-MOST_BYTES
-returns-then-bytes-gt-MOST_BYTES c = whole (put_as (c.put_line.ensures.put (omega arith)).0 (too_long c.args.bytes.now (omega (arith, c.if-bytes-gt-MOST_BYTES.true))))
+returns-then-bytes-gt-MOST_BYTES c =
+    let w = whole (put_as (c.put_line.ensures.put (omega arith)).0 (too_long c.args.bytes.now (omega (arith, c.if-bytes-gt-MOST_BYTES.true)))) in
+    record { out_after = w.0; prefix_len = w.1 }
 
 pub put_opened-requires : goal.put_opened-requires
 put_opened-requires c = (sym c.open_carrier-a.ensures ∙ c.in-Open.is, omega (arith, c.requires))
@@ -15,7 +16,11 @@ pub put_refused-requires : goal.put_refused-requires
 put_refused-requires c = (read-refused _ c.open_carrier-a.ensures c.in-Refused.is, omega (arith, c.requires))
 
 pub returns-in-Open : goal.returns-in-Open
-returns-in-Open c = whole (put_as c.put_opened.ensures (in-limit c.args.bytes.now (omega (arith, c.if-bytes-gt-MOST_BYTES.false))))
+returns-in-Open c =
+    let w = whole (put_as c.put_opened.ensures (in-limit c.args.bytes.now (omega (arith, c.if-bytes-gt-MOST_BYTES.false)))) in
+    record { out_after = w.0; prefix_len = w.1 }
 
 pub returns-in-Refused : goal.returns-in-Refused
-returns-in-Refused c = whole (put_as c.put_refused.ensures (in-limit c.args.bytes.now (omega (arith, c.if-bytes-gt-MOST_BYTES.false))))
+returns-in-Refused c =
+    let w = whole (put_as c.put_refused.ensures (in-limit c.args.bytes.now (omega (arith, c.if-bytes-gt-MOST_BYTES.false)))) in
+    record { out_after = w.0; prefix_len = w.1 }

@@ -1,4 +1,3 @@
-use borrow.Author.Rules.{rules}
 use native.Mathlib.Omega.{arith}
 use Rattle.emdf_text.specs.Lines.{line}
 use Rattle.emdfcheck.specs.Output.{record_line}
@@ -10,4 +9,4 @@ unfolding record_line line
 returns c =
     let p = c.put_decimal-end.ensures.put (omega arith) in
     let q = c.put_line.ensures.put (omega (arith, p.1)) in
-    (both p.0 q.0, omega (arith, p.1, q.1))
+    record { printed = both p.0 q.0; upper_bound = omega (arith, p.1, q.1) }

@@ -1,17 +1,8 @@
-use borrow.Author.Rules.{rules}
-use Prim.Native.Nat.{ℕ, ◌+◌, ◌*◌, ◌≤◌}
+use Prim.Native.Nat.{ℕ}
 use mathlib.Core.Path.{◌≡◌, refl, sym, ◌∙◌}
-use mathlib.Core.List.{List}
 use native.Mathlib.Omega.{arith}
-use lib.ListN.{length}
-use Rattle.openjoc_bitio.specs.Cursor.{bits_remaining}
-use Rattle.emdf_format.specs.Reading.{Found, reading}
-use Rattle.emdf_format.specs.Calls.{records_of}
 use Rattle.emdf_payloads.proofs.Turns.{at-payload}
-use Rattle.emdf_payloads.specs.Payloads.{Listed}
-use Rattle.emdfcheck.specs.Output.{record_lines}
-use Rattle.emdfcheck.specs.Parts.{records_in}
-use Rattle.emdf_text.proofs.Put.{Leaves, leaves-less}
+use Rattle.emdf_text.proofs.Put.{leaves-less}
 use Rattle.emdfcheck.proofs.Records.{all_listed, all-records, more, done}
 use Rattle.emdfcheck.proofs.put_records.Goals as goal
 
@@ -34,7 +25,7 @@ loop-payload-preserved c =
     let l = c.loop-payload in
     let m = more _ l.at c.next_payload-step.ensures l.invariant.0 l.invariant.1 c.in-Payload.is in
     let p = c.put_record-end in
-    (m.rest, m.listed, p.auto.0 ∙ l.invariant.2, omega (arith, m.size, l.invariant.3, p.ensures.1, p.auto.0), leaves-less (rw m.lines at l.invariant.4) p.ensures.0)
+    (m.rest, m.listed, p.auto.out ∙ l.invariant.2, omega (arith, m.size, l.invariant.3, p.ensures.upper_bound, p.auto.out), leaves-less (rw m.lines at l.invariant.4) p.ensures.printed)
 
 pub shape_of-out-in-End : goal.shape_of-out-in-End
 shape_of-out-in-End c = c.loop-payload.invariant.2

@@ -1,18 +1,14 @@
-use borrow.Author.Rules.{rules}
-use Prim.Native.Nat.{ℕ, ◌+◌, ◌*◌, ◌≤◌}
-use mathlib.Core.Path.{◌≡◌, refl, sym, ◌∙◌}
+use Prim.Native.Nat.{◌+◌, ◌*◌, ◌≤◌}
+use mathlib.Core.Path.{◌≡◌}
 use mathlib.Core.List.{List}
-use native.Mathlib.Omega.{arith}
 use lib.ListN.{length}
 use Rattle.openjoc_bitio.specs.Cursor.{bits_remaining}
 use Rattle.emdf_format.specs.Reading.{Found, reading}
 use Rattle.emdf_format.specs.Calls.{records_of}
-use Rattle.emdf_payloads.proofs.Turns.{at-payload}
 use Rattle.emdf_payloads.specs.Payloads.{Listed}
 use Rattle.emdfcheck.specs.Output.{record_lines}
 use Rattle.emdfcheck.specs.Parts.{records_in}
-use Rattle.emdf_text.proofs.Put.{Leaves, leaves-less}
-use Rattle.emdfcheck.proofs.Records.{all_listed, all-records, more, done}
+use Rattle.emdf_text.proofs.Put.{Leaves}
 use Rattle.emdfcheck.proofs.put_records.Given as goal
 
 abbrev pub invariant-loop-payload : goal.invariant-loop-payload

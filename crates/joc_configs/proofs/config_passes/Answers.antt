@@ -1,4 +1,3 @@
-use borrow.Author.Rules.{rules}
 use Rattle.emdf_format.proofs.Standing.{fails, holds}
 use Rattle.joc_configs.proofs.Profile.{config-stop, config-go}
 use mathlib.Core.Path.{ap}

@@ -1,4 +1,3 @@
-use borrow.Author.Rules.{rules}
 use native.Mathlib.Omega.{arith}
 use Rattle.emdf_format.specs.Profile.{deviations, table56, marks, deviates, word}
 use Rattle.joc_configs.proofs.deviation_marks.Goals as goal

@@ -1,4 +1,3 @@
-use borrow.Author.Rules.{rules}
 use native.Mathlib.Omega.{arith}
 use Rattle.emdf_format.specs.Profile.{table56, marks, deviates, word}
 use Rattle.joc_configs.proofs.head_marks.Goals as goal

@@ -1,4 +1,3 @@
-use borrow.Author.Rules.{rules}
 use Rattle.emdf_format.specs.Profile.{table56, passes}
 use Rattle.joc_configs.specs.Settings.{passes_as}
 use Rattle.emdf_format.proofs.Standing.{fails, holds}

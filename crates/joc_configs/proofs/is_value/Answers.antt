@@ -1,4 +1,3 @@
-use borrow.Author.Rules.{rules}
 use Rattle.emdf_format.specs.Profile.{meets}
 use Rattle.joc_configs.proofs.is_value.Goals as goal
 

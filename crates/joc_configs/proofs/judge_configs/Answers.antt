@@ -1,4 +1,3 @@
-use borrow.Author.Rules.{rules}
 use Rattle.joc_configs.proofs.Profile.{ones-word, judge-refused, judge-accepted}
 use mathlib.Core.Path.{ap}
 use mathlib.Core.Bool.{not}

@@ -1,4 +1,3 @@
-use borrow.Author.Rules.{rules}
 use Rattle.emdf_format.specs.Contents.{◌&◌}
 use Rattle.emdf_format.specs.Profile.{meets_profile}
 use Rattle.emdf_format.proofs.Standing.{fails, holds}

@@ -1,4 +1,3 @@
-use borrow.Author.Rules.{rules}
 use Rattle.emdf_format.specs.Profile.{meets_profile}
 use Rattle.joc_configs.proofs.meets_profile.Goals as goal
 

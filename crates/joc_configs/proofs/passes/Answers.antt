@@ -1,4 +1,3 @@
-use borrow.Author.Rules.{rules}
 use Rattle.emdf_format.specs.Profile.{allows}
 use Rattle.joc_configs.specs.Settings.{passes_as}
 use Rattle.joc_configs.proofs.passes.Goals as goal

@@ -1,15 +1,10 @@
-use borrow.Author.Rules.{rules}
 use Prim.Native.Nat.{◌≤◌}
-use mathlib.Core.Path.{sym, ◌∙◌}
 use mathlib.Core.List.{List}
-use native.Mathlib.Omega.{arith}
 use Rattle.openjoc_bitio.specs.Cursor.{bits_remaining}
 use Rattle.emdf_format.specs.Reading.{Found}
-use Rattle.emdf_payloads.proofs.Turns.{at-payload}
 use Rattle.emdf_payloads.specs.Payloads.{Listed}
-use Rattle.emdf_payloads.proofs.Walk.{step-refused, skip-past, skip-end, skip-refused}
 use Rattle.joc_profile.specs.Pair.{count_of}
-use Rattle.joc_profile.proofs.Pair.{none_seen, count_next, Same, same_start, same_next, same_end}
+use Rattle.joc_profile.proofs.Pair.{Same}
 use Rattle.joc_profile.proofs.find_pair.Given as goal
 
 abbrev pub invariant-loop-id : goal.invariant-loop-id

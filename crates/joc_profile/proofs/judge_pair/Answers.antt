@@ -1,4 +1,3 @@
-use borrow.Author.Rules.{rules}
 use Rattle.joc_profile.proofs.Pair.{oamd-missing, joc-missing, both-there}
 use Rattle.joc_profile.proofs.judge_pair.Goals as goal
 

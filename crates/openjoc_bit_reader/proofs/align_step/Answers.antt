@@ -1,5 +1,4 @@
 use mathlib.Core.Path.{ap, ◌∙◌, sym}
-use borrow.Author.Rules.{rules}
 use Rattle.openjoc_bit_reader.specs.Reader.{align_step_of, align_step}
 use Rattle.openjoc_bit_reader.proofs.align_step.Goals as goal
 

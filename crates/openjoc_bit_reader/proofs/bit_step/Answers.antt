@@ -1,5 +1,4 @@
 use mathlib.Core.Path.{ap, ◌∙◌, sym}
-use borrow.Author.Rules.{rules}
 use Rattle.openjoc_bit_reader.specs.Reader.{bit_step_of, bit_step}
 use Rattle.openjoc_bit_reader.proofs.bit_step.Goals as goal
 

@@ -1,5 +1,4 @@
 use mathlib.Core.Path.{ap, ◌∙◌, sym}
-use borrow.Author.Rules.{rules}
 use Rattle.openjoc_bit_reader.specs.Reader.{bits_step_of, bits_step}
 use Rattle.openjoc_bit_reader.proofs.bits_step.Goals as goal
 

@@ -1,5 +1,4 @@
 use mathlib.Core.Path.{ap, ◌∙◌, sym}
-use borrow.Author.Rules.{rules}
 use Rattle.openjoc_bit_reader.specs.Reader.{window_step_of, window_step}
 use Rattle.openjoc_bit_reader.proofs.window_step.Goals as goal
 

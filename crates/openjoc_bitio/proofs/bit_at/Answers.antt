@@ -1,4 +1,3 @@
-use borrow.Author.Rules.{rules}
 use Rattle.openjoc_bitio.specs.Bits.{bit_at}
 use Rattle.openjoc_bitio.proofs.bit_at.Goals as goal
 

@@ -1,4 +1,3 @@
-use borrow.Author.Rules.{rules}
 use borrow.Author.Tests.{le-ltb, lt-ltb}
 use Prim.Native.Nat.{◌^◌}
 use lib.ListN.{length}

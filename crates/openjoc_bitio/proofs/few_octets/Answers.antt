@@ -1,8 +1,7 @@
-use Prim.Native.Nat.{ℕ, ◌≤◌, ◌<◌, ◌-◌, ◌*◌, ◌+◌, ◌^◌}
+use Prim.Native.Nat.{ℕ, ◌<◌, ◌-◌, ◌*◌, ◌+◌, ◌^◌}
 use mathlib.Core.Path.{◌≡◌, sym}
 use native.Mathlib.Omega.{arith}
 use lib.ListN.{length, get_or}
-use Rattle.openjoc_bitio.specs.Bits.{bits_value}
 use Rattle.openjoc_bitio.proofs.Bits.{value_none, value-within, value-bytes}
 use Rattle.openjoc_bitio.proofs.few_octets.Goals as goal
 
@@ -15,7 +14,7 @@ loop-k-init c =
 pub overflow_mul-value : goal.overflow_mul-value
 overflow_mul-value c =
     let small : c.loop-k.k < length c.args.s.now → c.loop-k.value < 2 ^ 56 = λ h. let a = c.args in
-        omega (arith, c.loop-k.invariant.2, value-within a.s.now (a.i * 8) ((c.loop-k.k - a.i) * 8) 56 (omega arith)) in
+    omega (arith, c.loop-k.invariant.2, value-within a.s.now (a.i * 8) ((c.loop-k.k - a.i) * 8) 56 (omega arith)) in
     omega (arith, small (omega arith))
 
 pub overflow_add-value : goal.overflow_add-value
@@ -23,7 +22,7 @@ overflow_add-value c =
     let byte : (i : ℕ) → get_or c.args.s.now i 0 < 2 ^ 8 = λ i. (c.shared_slice_known-1.given i).fits in
     let octet : c.wide.result < 2 ^ 8 = omega (arith, c.wide.ensures, byte c.loop-k.k) in
     let small : c.loop-k.k < length c.args.s.now → c.loop-k.value < 2 ^ 56 = λ h. let a = c.args in
-        omega (arith, c.loop-k.invariant.2, value-within a.s.now (a.i * 8) ((c.loop-k.k - a.i) * 8) 56 (omega arith)) in
+    omega (arith, c.loop-k.invariant.2, value-within a.s.now (a.i * 8) ((c.loop-k.k - a.i) * 8) 56 (omega arith)) in
     omega (arith, small (omega arith), octet)
 
 pub loop-k-preserved : goal.loop-k-preserved

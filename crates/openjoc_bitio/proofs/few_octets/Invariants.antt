@@ -1,9 +1,7 @@
-use Prim.Native.Nat.{ℕ, ◌≤◌, ◌<◌, ◌-◌, ◌*◌, ◌+◌, ◌^◌}
-use mathlib.Core.Path.{◌≡◌, sym}
-use native.Mathlib.Omega.{arith}
-use lib.ListN.{length, get_or}
+use Prim.Native.Nat.{◌≤◌, ◌-◌, ◌*◌}
+use mathlib.Core.Path.{◌≡◌}
+use lib.ListN.{length}
 use Rattle.openjoc_bitio.specs.Bits.{bits_value}
-use Rattle.openjoc_bitio.proofs.Bits.{value_none, value-within, value-bytes}
 use Rattle.openjoc_bitio.proofs.few_octets.Given as goal
 
 abbrev pub invariant-loop-k : goal.invariant-loop-k

@@ -1,8 +1,6 @@
-use Prim.Native.Nat.{◌≤◌, ◌-◌, ◌+◌}
-use mathlib.Core.Path.{◌≡◌, refl, sym}
-use native.Mathlib.Omega.{arith}
+use Prim.Native.Nat.{◌≤◌, ◌-◌}
+use mathlib.Core.Path.{◌≡◌}
 use Rattle.openjoc_bitio.specs.Bits.{bits_value}
-use Rattle.openjoc_bitio.proofs.Bits.{value_none, value-turn}
 use Rattle.openjoc_bitio.proofs.long_value.Given as goal
 
 abbrev pub invariant-loop-done : goal.invariant-loop-done

@@ -1,4 +1,3 @@
-use Prim.Native.Nat.{◌+◌}
 use native.Mathlib.Omega.{arith}
 use Rattle.openjoc_bitio.specs.Bits.{swap_four}
 use Rattle.openjoc_bitio.proofs.swap_four.Goals as goal

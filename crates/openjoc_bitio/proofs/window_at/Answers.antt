@@ -1,4 +1,3 @@
-use borrow.Author.Rules.{rules}
 use Rattle.openjoc_bitio.proofs.Bits.{window-word}
 use Rattle.openjoc_bitio.proofs.window_at.Goals as goal
 

@@ -1,4 +1,3 @@
-use borrow.Author.Rules.{rules}
 use borrow.Author.Tests.{eq-eqb, ne_eqb}
 use Rattle.openjoc_emdf.specs.Answers.{classified_of}
 use Rattle.openjoc_emdf.proofs.classified.Goals as goal

@@ -1,4 +1,3 @@
-use borrow.Author.Rules.{rules}
 use lib.ListN.{length}
 use Rattle.openjoc_emdf.specs.declared.ParseAnswer.{ParseAnswer}
 use mathlib.Core.Path.{ap, ◌∙◌}

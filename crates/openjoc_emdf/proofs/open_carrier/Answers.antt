@@ -1,4 +1,3 @@
-use borrow.Author.Rules.{rules}
 use Rattle.openjoc_emdf.proofs.Opening.{open-refused, open-size, open-parsed}
 use Rattle.openjoc_emdf.proofs.open_carrier.Goals as goal
 

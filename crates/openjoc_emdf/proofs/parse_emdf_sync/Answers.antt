@@ -1,4 +1,3 @@
-use borrow.Author.Rules.{rules}
 use Prim.Native.Nat.{◌+◌}
 use Rattle.emdf_container.specs.declared.ContainerAnswer.{ContainerAnswer}
 use mathlib.Core.Path.{sym, ap, ◌∙◌}

@@ -1,4 +1,3 @@
-use borrow.Author.Rules.{rules}
 use Rattle.openjoc_emdf.specs.Answers.{parsed_of}
 use Rattle.openjoc_emdf.proofs.parsed.Goals as goal
 

@@ -1,9 +1,8 @@
-use Prim.Native.Nat.{◌+◌, ◌-◌, ◌≤◌}
-use mathlib.Core.Path.{◌≡◌, refl}
-use mathlib.Core.List.{◌++◌, append-nil}
+use mathlib.Core.Path.{refl}
+use mathlib.Core.List.{append-nil}
 use native.Mathlib.Nat.{add-zero}
 use native.Mathlib.Omega.{arith}
-use lib.ListN.{length, get_or, take, drop, length-set}
+use lib.ListN.{get_or, length-set}
 use Rattle.emdf_text.proofs.Put.{more_bytes, more-rest, all-bytes}
 use Rattle.emdf_text.proofs.lines.copy_bytes.Goals as goal
 

@@ -1,4 +1,3 @@
-use borrow.Author.Rules.{rules}
 use Rattle.emdf_text.proofs.Put.{one_byte}
 use Rattle.emdf_text.proofs.lines.put_byte.Goals as goal
 

@@ -1,4 +1,3 @@
-use borrow.Author.Rules.{rules}
 use native.Mathlib.Omega.{arith}
 use Rattle.emdf_text.proofs.Put.{has-put, left_out}
 use Rattle.emdf_text.proofs.lines.put_bytes.Goals as goal

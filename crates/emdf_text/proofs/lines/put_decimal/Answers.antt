@@ -1,12 +1,10 @@
-use borrow.Author.Rules.{rules}
 use native.Mathlib.Omega.{arith}
 use Prim.Native.Nat.{◌+◌, ◌≤◌}
 use lib.ListN.{length}
-use mathlib.Core.Path.{◌∙◌}
+use mathlib.Core.Path.{ap, ◌∙◌}
+use mathlib.Core.Bool.{not}
 use Rattle.emdf_text.proofs.Decimal.{decimal-is, few-digits}
 use Rattle.emdf_text.proofs.Put.{has-put, left_out, room, no_room}
-use mathlib.Core.Path.{ap}
-use mathlib.Core.Bool.{not}
 use Rattle.emdf_text.proofs.lines.put_decimal.Goals as goal
 
 pub returns-then-not-has_room : goal.returns-then-not-has_room
@@ -14,9 +12,9 @@ returns-then-not-has_room c = left_out (no_room _ _ c.has_room.ensures (ap not c
 
 pub returns : goal.returns
 returns c =
-    let d = c.decimal-n.ensures in
-    let few = few-digits _ _ d.1.0 c.ranges.number.fits in
     let a = c.args in
+    let few = few-digits a.number c.ranges.number.fits in
     let h : a.at + 20 ≤ length a.out.now = room _ _ c.has_room.ensures (ap not c.if-not-has_room.false) in
-    let p = c.put_bytes.ensures.put (omega (arith, d.0, few, h)) in
-    has-put h (rw (d.1.1 ∙ decimal-is _ _ d.1.0) at p.0) (omega (arith, d.0, p.1, few))
+    let e = c.as_bytes.ensures.value ∙ c.format.ensures.text ∙ decimal-is a.number c.ranges.number.fits in
+    let p = (rw e at c.put_bytes.ensures).put (omega (arith, few, h)) in
+    has-put h p.0 (omega (arith, p.1, few))

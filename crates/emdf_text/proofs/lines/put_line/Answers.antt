@@ -1,4 +1,3 @@
-use borrow.Author.Rules.{rules}
 use Prim.Native.Nat.{◌+◌, ◌*◌, ◌≤◌}
 use lib.ListN.{length}
 use native.Mathlib.Omega.{arith}
@@ -25,4 +24,4 @@ returns c =
     let h : a.at + (length a.word.now + 21 * length a.numbers.now + 1) ≤ length a.out.now = room _ _ c.has_room.ensures (ap not c.if-not-has_room.false) in
     let p = c.put_bytes-end.ensures.put (omega (arith, h)) in
     let q = c.put_numbers.ensures in
-    has-put h (both p.0 q.0) (omega (arith, p.0.size, q.1))
+    has-put h (both p.0 q.printed) (omega (arith, p.0.size, q.upper_bound))

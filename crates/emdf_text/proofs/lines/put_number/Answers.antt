@@ -1,4 +1,3 @@
-use borrow.Author.Rules.{rules}
 use native.Mathlib.Omega.{arith}
 use Rattle.emdf_text.proofs.Put.{both}
 use Rattle.emdf_text.proofs.lines.put_number.Goals as goal
@@ -7,4 +6,4 @@ pub returns : goal.returns
 returns c =
     let p = c.put_byte-end.ensures in
     let q = c.put_decimal.ensures.put (omega (arith, p.size)) in
-    (both p q.0, omega (arith, p.size, q.1))
+    record { printed = both p q.0; upper_bound = omega (arith, p.size, q.1) }

@@ -1,9 +1,8 @@
 use Prim.Native.Nat.{◌+◌, ◌-◌, ◌*◌, ◌≤◌}
-use mathlib.Core.Path.{◌≡◌, refl, ◌∙◌}
-use native.Mathlib.Omega.{arith}
+use mathlib.Core.Path.{◌≡◌}
 use lib.ListN.{length, drop}
 use Rattle.emdf_text.specs.Lines.{spaced}
-use Rattle.emdf_text.proofs.Put.{Leaves, leaves-less, more_numbers, no-numbers}
+use Rattle.emdf_text.proofs.Put.{Leaves}
 use Rattle.emdf_text.proofs.lines.put_numbers.Given as goal
 
 abbrev pub invariant-loop-i : goal.invariant-loop-i

@@ -1,4 +1,3 @@
-use borrow.Author.Rules.{rules}
 use Rattle.openjoc_bitio.specs.Cursor.{whole_slice}
 use Rattle.openjoc_bitio.proofs.BitCursor.new.Goals as goal
 
