@@ -10,8 +10,8 @@
 # make threads     the library's calls from eight threads
 # make stack       the stack that each call takes
 # make peer        carriers read by emdf and by MediaInfo, where that is installed
-.PHONY: test emdfcheck lib emdf panel install long bench fuzz threads stack peer
-# Two runs of rt would write the same target/.
+.PHONY: test emdfcheck lib trials emdf panel install long bench fuzz threads stack peer
+# Two runs of rt in one crate wait for each other.
 .NOTPARALLEL:
 
 LIBRARY = target/staticlib/libemdf_host.a
@@ -23,11 +23,14 @@ test:
 	@tests/all
 
 emdfcheck:
-	@rt check emdfcheck
+	@tools/program emdfcheck
 
 lib:
-	@mkdir -p target
-	@rt staticlib emdf_host >target/lib.log 2>&1 || { cat target/lib.log; exit 1; }
+	@tools/archive emdf_host_c emdf_host
+
+# The archive of the calls that only the runs make, beside the library.
+trials: lib
+	@tools/archive emdf_trials emdf_trials
 
 emdf: lib
 	@mkdir -p target/bin

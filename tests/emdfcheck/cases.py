@@ -230,7 +230,7 @@ def results(program):
     of_B = (b"parsed 11 0 1\n1 37 42 47 56 64\n", b"", 0)
     yield "B in three parts", run_slowly(program, [B[:1], B[1:5], B[5:]]), of_B
     yield "an input that cannot be read", run_unreadable(program), (b"", b"standard input: ", 0)
-    # A Rattle program has no exit status but 0.
+    # What could not be read or written is said in words alone: docs/DECISIONS.md.
     usage = (b"", b"usage: emdfcheck <FILE\n", 0)
     for words in (["b.emdf"], [""], ["-"], ["--help"], ["a", "b"]):
         for data in (B, b""):
