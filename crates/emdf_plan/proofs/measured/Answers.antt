@@ -1,50 +1,46 @@
 use mathlib.Core.Path.{◌≡◌, refl, ap}
-use Prim.Native.Nat.{◌+◌, ◌-◌, ◌*◌, ◌/◌}
+use Prim.Native.Nat.{ℕ, ◌+◌, ◌-◌, ◌*◌, ◌/◌}
 use native.Mathlib.Omega.{arith}
 use Rattle.openjoc_bitio.specs.declared.BitOffset.{BitOffset}
+use Rattle.emdf_request.specs.declared.Stretch.{Stretch}
+use Rattle.emdf_request.specs.declared.Brought.{Brought}
+use Rattle.emdf_plan.specs.declared.Layout.{Layout}
 use Rattle.emdf_plan.specs.Plan.{edge_at, cut_at, size_after}
 use Rattle.emdf_plan.proofs.Asking.{too_long, no_room, in-room}
 use Rattle.emdf_plan.proofs.measured.Goals as goal
+
+bit : {a b : BitOffset} → a ≡ b → a.0 ≡ b.0
+bit e = ap (λ (o : BitOffset). o.0) e
+
+-- the declared size, as it is worked out from the two edges
+abbrev worked : Layout → Brought → BitOffset → BitOffset → ℕ
+worked l b from to = (l.end.0 - 32 - (to.0 - from.0) + b.fields + 8 * b.octets + 7) / 8
+
+sized : (x : Stretch) (l : Layout) (b : Brought) {from to : BitOffset} → from ≡ edge_at x.from l → to ≡ edge_at x.to l → worked l b from to ≡ size_after x l b
+unfolding size_after
+sized x l b f t = omega (arith, bit f, bit t)
 
 pub returns-then-octets-gt-MAX_DECLARED : goal.returns-then-octets-gt-MAX_DECLARED
 unfolding size_after
 returns-then-octets-gt-MAX_DECLARED c = too_long _ _ _ _ _ refl (omega (arith, c.if-octets-gt-MAX_DECLARED.true))
 
 pub overflow_sub-others-2 : goal.overflow_sub-others-2
-overflow_sub-others-2 c =
-    let from_is : c.edge_at-from.result.0 ≡ (edge_at c.args.stretch.from c.args.layout).0 = ap (λ (o : BitOffset). o.0) c.edge_at-from.ensures in
-    let to_is : c.edge_at-to.result.0 ≡ (edge_at c.args.stretch.to c.args.layout).0 = ap (λ (o : BitOffset). o.0) c.edge_at-to.ensures in
-    let a = c in omega (arith, from_is, to_is, a.requires.0)
+overflow_sub-others-2 c = omega (arith, bit c.edge_at-from.ensures, bit c.edge_at-to.ensures, c.requires.0)
 
 pub overflow_sub-others-3 : goal.overflow_sub-others-3
-overflow_sub-others-3 c =
-    let from_is : c.edge_at-from.result.0 ≡ (edge_at c.args.stretch.from c.args.layout).0 = ap (λ (o : BitOffset). o.0) c.edge_at-from.ensures in
-    let to_is : c.edge_at-to.result.0 ≡ (edge_at c.args.stretch.to c.args.layout).0 = ap (λ (o : BitOffset). o.0) c.edge_at-to.ensures in
-    let a = c in omega (arith, from_is, to_is, a.requires.0)
+overflow_sub-others-3 c = omega (arith, bit c.edge_at-from.ensures, bit c.edge_at-to.ensures, c.requires.0)
 
 pub returns-then-size-gt-MAX_DECLARED : goal.returns-then-size-gt-MAX_DECLARED
-unfolding size_after
 returns-then-size-gt-MAX_DECLARED c =
-    let from_is : c.edge_at-from.result.0 ≡ (edge_at c.args.stretch.from c.args.layout).0 = ap (λ (o : BitOffset). o.0) c.edge_at-from.ensures in
-    let to_is : c.edge_at-to.result.0 ≡ (edge_at c.args.stretch.to c.args.layout).0 = ap (λ (o : BitOffset). o.0) c.edge_at-to.ensures in
-    let sized : let k = c in
-    (k.args.layout.end.0 - 32 - (c.edge_at-to.result.0 - c.edge_at-from.result.0) + k.args.brought.fields + 8 * k.args.brought.octets + 7) / 8 ≡ size_after k.args.stretch k.args.layout k.args.brought = omega (arith, from_is, to_is) in
-    too_long _ _ _ _ _ sized c.if-size-gt-MAX_DECLARED.true
+    too_long _ _ _ _ _ (sized c.args.stretch c.args.layout c.args.brought c.edge_at-from.ensures c.edge_at-to.ensures) c.if-size-gt-MAX_DECLARED.true
 
 pub returns-then-room-n : goal.returns-then-room-n
-unfolding size_after
 returns-then-room-n c =
-    let from_is : c.edge_at-from.result.0 ≡ (edge_at c.args.stretch.from c.args.layout).0 = ap (λ (o : BitOffset). o.0) c.edge_at-from.ensures in
-    let to_is : c.edge_at-to.result.0 ≡ (edge_at c.args.stretch.to c.args.layout).0 = ap (λ (o : BitOffset). o.0) c.edge_at-to.ensures in
-    let sized : let k = c in
-    (k.args.layout.end.0 - 32 - (c.edge_at-to.result.0 - c.edge_at-from.result.0) + k.args.brought.fields + 8 * k.args.brought.octets + 7) / 8 ≡ size_after k.args.stretch k.args.layout k.args.brought = omega (arith, from_is, to_is) in
-    no_room _ _ _ _ _ sized c.if-size-gt-MAX_DECLARED.false c.if-room-n.true
+    no_room _ _ _ _ _ (sized c.args.stretch c.args.layout c.args.brought c.edge_at-from.ensures c.edge_at-to.ensures) c.if-size-gt-MAX_DECLARED.false c.if-room-n.true
 
 pub returns : goal.returns
-unfolding cut_at size_after
+unfolding cut_at
 returns c =
-    let from_is : c.edge_at-from.result.0 ≡ (edge_at c.args.stretch.from c.args.layout).0 = ap (λ (o : BitOffset). o.0) c.edge_at-from.ensures in
-    let to_is : c.edge_at-to.result.0 ≡ (edge_at c.args.stretch.to c.args.layout).0 = ap (λ (o : BitOffset). o.0) c.edge_at-to.ensures in
-    let sized : let k = c in
-    (k.args.layout.end.0 - 32 - (c.edge_at-to.result.0 - c.edge_at-from.result.0) + k.args.brought.fields + 8 * k.args.brought.octets + 7) / 8 ≡ size_after k.args.stretch k.args.layout k.args.brought = omega (arith, from_is, to_is) in
-    let a = c in rw (← a.edge_at-from.ensures, ← a.edge_at-to.ensures, ← a.edge_at-kept.ensures) at (in-room c.args.stretch c.args.layout c.args.brought c.args.room ((c.args.layout.end.0 - 32 - (c.edge_at-to.result.0 - c.edge_at-from.result.0) + c.args.brought.fields + 8 * c.args.brought.octets + 7) / 8) sized c.if-size-gt-MAX_DECLARED.false c.if-room-n.false)
+    let a = c.args in
+    rw (← c.edge_at-from.ensures, ← c.edge_at-to.ensures, ← c.edge_at-kept.ensures) at
+    (in-room a.stretch a.layout a.brought a.room (worked a.layout a.brought c.edge_at-from.result c.edge_at-to.result) (sized a.stretch a.layout a.brought c.edge_at-from.ensures c.edge_at-to.ensures) c.if-size-gt-MAX_DECLARED.false c.if-room-n.false)
