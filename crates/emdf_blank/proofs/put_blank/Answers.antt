@@ -18,41 +18,27 @@ pub put_field-mark-requires : goal.put_field-mark-requires
 put_field-mark-requires c =
     let sizes : let a = c.args in let n = length (header_bits a.size.0 a.key) + 5 + length (protection_bits a.primary.now a.secondary.now) in
     (n ≤ (4 + a.size.0) * 8) × ((4 + a.size.0) * 8 < n + 8) = blank-size c.args.key _ _ c.args.size.0 c.requires.0 in
-    let a = c in
-    omega (arith, sizes, length-number 5 0, a.put_header-header.ensures.0, a.put_header-header.auto.out)
+    omega (arith, sizes, length-number 5 0, c.put_header-header.ensures.0, c.put_header-header.auto.out)
 
 pub put_protection-end-requires : goal.put_protection-end-requires
 put_protection-end-requires c =
     let sizes : let a = c.args in let n = length (header_bits a.size.0 a.key) + 5 + length (protection_bits a.primary.now a.secondary.now) in
     (n ≤ (4 + a.size.0) * 8) × ((4 + a.size.0) * 8 < n + 8) = blank-size c.args.key _ _ c.args.size.0 c.requires.0 in
-    let b = c in
-    let a = b in
-    omega (arith, sizes, length-number 5 0, a.put_header-header.ensures.0, a.put_header-header.auto.out, b.put_field-mark.ensures.0, b.put_field-mark.auto.out)
+    omega (arith, sizes, length-number 5 0, c.put_header-header.ensures.0, c.put_header-header.auto.out, c.put_field-mark.ensures.0, c.put_field-mark.auto.out)
 
 pub overflow_sub-size : goal.overflow_sub-size
 overflow_sub-size c =
     let sizes : let a = c.args in let n = length (header_bits a.size.0 a.key) + 5 + length (protection_bits a.primary.now a.secondary.now) in
     (n ≤ (4 + a.size.0) * 8) × ((4 + a.size.0) * 8 < n + 8) = blank-size c.args.key _ _ c.args.size.0 c.requires.0 in
-    let d = c in
-    let b = d in
-    let a = b in
-    omega (arith, sizes, length-number 5 0, a.put_header-header.ensures.0, b.put_field-mark.ensures.0, d.put_protection-end.ensures.0)
+    omega (arith, sizes, length-number 5 0, c.put_header-header.ensures.0, c.put_field-mark.ensures.0, c.put_protection-end.ensures.0)
 
 pub put_field-requires : goal.put_field-requires
 put_field-requires c =
     let sizes : let a = c.args in let n = length (header_bits a.size.0 a.key) + 5 + length (protection_bits a.primary.now a.secondary.now) in
     (n ≤ (4 + a.size.0) * 8) × ((4 + a.size.0) * 8 < n + 8) = blank-size c.args.key _ _ c.args.size.0 c.requires.0 in
-    let d = c in
-    let b = d in
-    let a = b in
-    let k = a in
-    omega (arith, sizes, length-number 5 0, length-number ((4 + k.args.size.0) * 8 - d.put_protection-end.result.0) 0, a.put_header-header.ensures.0, a.put_header-header.auto.out, b.put_field-mark.ensures.0, b.put_field-mark.auto.out, d.put_protection-end.ensures.0, d.put_protection-end.auto.out)
+    omega (arith, sizes, length-number 5 0, length-number ((4 + c.args.size.0) * 8 - c.put_protection-end.result.0) 0, c.put_header-header.ensures.0, c.put_header-header.auto.out, c.put_field-mark.ensures.0, c.put_field-mark.auto.out, c.put_protection-end.ensures.0, c.put_protection-end.auto.out)
 
 pub returns : goal.returns
 returns c =
-    let d = c in
-    let b = d in
-    let a = b in
-    let k = a in
-    rw (← blank-bits k.args.key k.args.primary.now k.args.secondary.now k.args.size.0 k.requires.0 d.put_protection-end.result.0 (omega (arith, length-number 5 0, a.put_header-header.ensures.0, b.put_field-mark.ensures.0, d.put_protection-end.ensures.0)))
-    (then-put _ _ _ _ _ _ a.put_header-header.ensures (then-put _ _ _ _ _ _ b.put_field-mark.ensures (then-put _ _ _ _ _ _ d.put_protection-end.ensures c.put_field.ensures)))
+    rw (← blank-bits c.args.key c.args.primary.now c.args.secondary.now c.args.size.0 c.requires.0 c.put_protection-end.result.0 (omega (arith, length-number 5 0, c.put_header-header.ensures.0, c.put_field-mark.ensures.0, c.put_protection-end.ensures.0)))
+    (then-put _ _ _ _ _ _ c.put_header-header.ensures (then-put _ _ _ _ _ _ c.put_field-mark.ensures (then-put _ _ _ _ _ _ c.put_protection-end.ensures c.put_field.ensures)))

@@ -7,9 +7,8 @@ loop-record-init c xs l = record { payloads = xs; listed = l; same = refl }
 
 pub body_span-requires : goal.body_span-requires
 body_span-requires c =
-    let b = c in
-    let (xs, l) = b.requires in
-    span-runs _ _ _ (b.loop-record.invariant xs l) (sym c.next_payload-step.ensures ∙ c.in-Payload.is)
+    let (xs, l) = c.requires in
+    span-runs _ _ _ (c.loop-record.invariant xs l) (sym c.next_payload-step.ensures ∙ c.in-Payload.is)
 
 pub returns-then-left-eq0 : goal.returns-then-left-eq0
 returns-then-left-eq0 c xs l = c.body_span.ensures ∙ body-here _ _ _ (c.loop-record.invariant xs l) (sym c.next_payload-step.ensures ∙ c.in-Payload.is) c.if-left-eq0.true

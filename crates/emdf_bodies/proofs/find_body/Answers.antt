@@ -8,7 +8,7 @@ use Rattle.emdf_bodies.proofs.find_body.Goals as goal
 pub slice_bounds-body_from-end : goal.slice_bounds-body_from-end
 slice_bounds-body_from-end c =
     let opening : Opened c.args.bytes.now c.in-Open.parsed c.in-Open.first = opened _ (sym c.open_carrier-a.ensures ∙ c.in-Open.is) in
-    sym (length-take-le _ _ (opening).there)
+    sym (length-take-le _ _ opening.there)
 
 pub body_from-requires : goal.body_from-requires
 body_from-requires c =

@@ -13,27 +13,23 @@ returns-in_default c =
 pub returns-then-start-eq0 : goal.returns-then-start-eq0
 returns-then-start-eq0 c =
     let there : Standing c.args.bytes.now c.args.place c.in-Body.start.0 c.in-Body.length.0 = standing _ _ (sym c.find_body-a.ensures ∙ c.in-Body.is) in
-    let a = c in
-    let d = on-byte _ _ a.args.scratch.now (there) c.if-start-eq0.true in
+    let d = on-byte _ _ c.args.scratch.now there c.if-start-eq0.true in
     (d.answer, d.after)
 
 pub returns-then-scratch-length : goal.returns-then-scratch-length
 returns-then-scratch-length c =
     let there : Standing c.args.bytes.now c.args.place c.in-Body.start.0 c.in-Body.length.0 = standing _ _ (sym c.find_body-a.ensures ∙ c.in-Body.is) in
-    let a = c in
-    let d = no_room _ _ a.args.scratch.now (there) c.if-start-eq0.false c.if-scratch-length.true in
+    let d = no_room _ _ c.args.scratch.now there c.if-start-eq0.false c.if-scratch-length.true in
     (d.answer, d.after)
 
 pub copy_octets-requires : goal.copy_octets-requires
 copy_octets-requires c =
     let there : Standing c.args.bytes.now c.args.place c.in-Body.start.0 c.in-Body.length.0 = standing _ _ (sym c.find_body-a.ensures ∙ c.in-Body.is) in
-    (omega arith, omega (arith, (there).inside))
+    (omega arith, omega (arith, there.inside))
 
 pub returns : goal.returns
 returns c =
     let there : Standing c.args.bytes.now c.args.place c.in-Body.start.0 c.in-Body.length.0 = standing _ _ (sym c.find_body-a.ensures ∙ c.in-Body.is) in
-    let e = c in
-    let a = e in
-    let d = in-scratch _ _ a.args.scratch.now (there) e.if-start-eq0.false e.if-scratch-length.false in
-    let copied = octets-copied _ _ _ _ _ (λ k. (a.slice_known-1.given k).fits) (λ k. (c.slice_known-2-1.given k).fits) e.if-scratch-length.false (omega (arith, (there).inside)) c.copy_octets.ensures in
+    let d = in-scratch _ _ c.args.scratch.now there c.if-start-eq0.false c.if-scratch-length.false in
+    let copied = octets-copied _ _ _ _ _ (λ k. (c.slice_known-1.given k).fits) (λ k. (c.slice_known-2-1.given k).fits) c.if-scratch-length.false (omega (arith, there.inside)) c.copy_octets.ensures in
     (d.answer, copied ∙ d.after)

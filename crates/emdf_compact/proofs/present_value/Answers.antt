@@ -1,9 +1,7 @@
-use mathlib.Core.Path.{◌≡◌, refl}
-use mathlib.Core.Bool.{true, false}
+use mathlib.Core.Path.{◌≡◌, refl, ap}
+use mathlib.Core.Bool.{true, false, not}
 use Rattle.emdf_format.proofs.Standing.{fails, holds}
 use Rattle.emdf_compact.specs.Words.{present_value}
-use mathlib.Core.Path.{ap}
-use mathlib.Core.Bool.{not}
 use Rattle.emdf_compact.proofs.present_value.Goals as goal
 
 pub returns-then-not-there : goal.returns-then-not-there

@@ -1,5 +1,5 @@
 use Prim.Native.Nat.{◌+◌, ◌^◌, ◌<◌}
-use mathlib.Core.Path.{refl}
+use mathlib.Core.Path.{refl, ap}
 use native.Mathlib.Omega.{arith}
 use Rattle.openjoc_bitio.proofs.Cursor.{remaining-end}
 use Rattle.emdf_format.specs.Groups.{largest_groups_of}
@@ -7,7 +7,6 @@ use Rattle.emdf_format.proofs.Standing.{holds}
 use Rattle.emdf_container.specs.Container.{container_of, container_answer}
 use Rattle.emdf_container.proofs.Ends.{short-protection}
 use Rattle.emdf_container.proofs.Words.{end_fits, fits_word, end-found}
-use mathlib.Core.Path.{ap}
 use mathlib.Core.Bool.{not}
 use Rattle.emdf_container.proofs.container_end.Goals as goal
 

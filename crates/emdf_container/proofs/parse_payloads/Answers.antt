@@ -19,7 +19,5 @@ extended_groups-groups-requires c = (omega arith, omega arith, refl)
 pub returns : goal.returns
 unfolding container_after container_answer
 returns c =
-    let l = c in
-    let e = l in
-    let d = list-found _ _ (sym e.count_payloads-a.ensures ∙ e.in-List.is) in
-    left container_answer _ _ _ _ (via container_answer _ _ _ _ _ d.3 (c.container_end.ensures d.0 d.1 (rw (l.larger.ensures, e.extended_groups-groups.ensures, d.2))))
+    let d = list-found _ _ (sym c.count_payloads-a.ensures ∙ c.in-List.is) in
+    left container_answer _ _ _ _ (via container_answer _ _ _ _ _ d.3 (c.container_end.ensures d.0 d.1 (rw (c.larger.ensures, c.extended_groups-groups.ensures, d.2))))

@@ -6,28 +6,19 @@ use Rattle.emdf_edit.proofs.Edited.{splice-sizes, splice-bits}
 use Rattle.emdf_edit.proofs.put_splice.Goals as goal
 
 pub put_sync-sync-requires : goal.put_sync-sync-requires
-put_sync-sync-requires c = let k = c in omega (arith, k.requires.1, splice-sizes k.requires.0)
+put_sync-sync-requires c = omega (arith, c.requires.1, splice-sizes c.requires.0)
 
 pub put_run-before-requires : goal.put_run-before-requires
 put_run-before-requires c =
-    let a = c in
-    let k = a in
-    omega (arith, k.requires.1, splice-sizes k.requires.0, a.put_sync-sync.ensures.0, a.put_sync-sync.auto.out)
+    omega (arith, c.requires.1, splice-sizes c.requires.0, c.put_sync-sync.ensures.0, c.put_sync-sync.auto.out)
 
 pub put_new-new-requires : goal.put_new-new-requires
 put_new-new-requires c =
-    let b = c in
-    let a = b in
-    let k = a in
-    omega (arith, k.requires.1, splice-sizes k.requires.0, a.put_sync-sync.ensures.0, a.put_sync-sync.auto.out, b.put_run-before.ensures.0, b.put_run-before.auto.out)
+    omega (arith, c.requires.1, splice-sizes c.requires.0, c.put_sync-sync.ensures.0, c.put_sync-sync.auto.out, c.put_run-before.ensures.0, c.put_run-before.auto.out)
 
 pub put_run-after-requires : goal.put_run-after-requires
 put_run-after-requires c =
-    let d = c in
-    let b = d in
-    let a = b in
-    let k = a in
-    omega (arith, k.requires.1, splice-sizes k.requires.0, a.put_sync-sync.ensures.0, a.put_sync-sync.auto.out, b.put_run-before.ensures.0, b.put_run-before.auto.out, d.put_new-new.ensures.0, d.put_new-new.auto.out)
+    omega (arith, c.requires.1, splice-sizes c.requires.0, c.put_sync-sync.ensures.0, c.put_sync-sync.auto.out, c.put_run-before.ensures.0, c.put_run-before.auto.out, c.put_new-new.ensures.0, c.put_new-new.auto.out)
 
 pub overflow_add-size : goal.overflow_add-size
 overflow_add-size c =
@@ -41,28 +32,13 @@ overflow_mul-size c =
 
 pub overflow_sub-size : goal.overflow_sub-size
 overflow_sub-size c =
-    let e = c in
-    let d = e in
-    let b = d in
-    let a = b in
-    let k = a in
-    omega (arith, k.requires.1, splice-sizes k.requires.0, a.put_sync-sync.ensures.0, b.put_run-before.ensures.0, d.put_new-new.ensures.0, e.put_run-after.ensures.0)
+    omega (arith, c.requires.1, splice-sizes c.requires.0, c.put_sync-sync.ensures.0, c.put_run-before.ensures.0, c.put_new-new.ensures.0, c.put_run-after.ensures.0)
 
 pub put_zeros-requires : goal.put_zeros-requires
 put_zeros-requires c =
-    let e = c in
-    let d = e in
-    let b = d in
-    let a = b in
-    let k = a in
-    omega (arith, k.requires.1, splice-sizes k.requires.0, length-number ((4 + k.args.cut.size.0) * 8 - e.put_run-after.result.0) 0, a.put_sync-sync.ensures.0, a.put_sync-sync.auto.out, b.put_run-before.ensures.0, b.put_run-before.auto.out, d.put_new-new.ensures.0, d.put_new-new.auto.out, e.put_run-after.ensures.0, e.put_run-after.auto.out)
+    omega (arith, c.requires.1, splice-sizes c.requires.0, length-number ((4 + c.args.cut.size.0) * 8 - c.put_run-after.result.0) 0, c.put_sync-sync.ensures.0, c.put_sync-sync.auto.out, c.put_run-before.ensures.0, c.put_run-before.auto.out, c.put_new-new.ensures.0, c.put_new-new.auto.out, c.put_run-after.ensures.0, c.put_run-after.auto.out)
 
 pub returns : goal.returns
 returns c =
-    let e = c in
-    let d = e in
-    let b = d in
-    let a = b in
-    let k = a in
-    rw (← splice-bits k.requires.0 e.put_run-after.result.0 (omega (arith, splice-sizes k.requires.0, a.put_sync-sync.ensures.0, b.put_run-before.ensures.0, d.put_new-new.ensures.0, e.put_run-after.ensures.0)))
-    (then-put _ _ _ _ _ _ a.put_sync-sync.ensures (then-put _ _ _ _ _ _ b.put_run-before.ensures (then-put _ _ _ _ _ _ d.put_new-new.ensures (then-put _ _ _ _ _ _ e.put_run-after.ensures c.put_zeros.ensures))))
+    rw (← splice-bits c.requires.0 c.put_run-after.result.0 (omega (arith, splice-sizes c.requires.0, c.put_sync-sync.ensures.0, c.put_run-before.ensures.0, c.put_new-new.ensures.0, c.put_run-after.ensures.0)))
+    (then-put _ _ _ _ _ _ c.put_sync-sync.ensures (then-put _ _ _ _ _ _ c.put_run-before.ensures (then-put _ _ _ _ _ _ c.put_new-new.ensures (then-put _ _ _ _ _ _ c.put_run-after.ensures c.put_zeros.ensures))))

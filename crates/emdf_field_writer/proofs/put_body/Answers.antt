@@ -7,8 +7,7 @@ put_variable-size-requires c = (omega arith, omega arith, omega arith, rw groups
 
 pub put_octets-requires : goal.put_octets-requires
 put_octets-requires c =
-    let d = c in
-    room_next _ _ _ _ _ d.requires (rw groups-field at d.put_variable-size.ensures) d.put_variable-size.auto.out
+    room_next _ _ _ _ _ c.requires (rw groups-field at c.put_variable-size.ensures) c.put_variable-size.auto.out
 
 pub returns : goal.returns
 returns c = then-put _ _ _ _ _ _ (rw groups-field at c.put_variable-size.ensures) c.put_octets.ensures

@@ -14,11 +14,8 @@ put_field-next-requires c = (omega arith, room-first _ _ _ (room-same _ (codec-s
 
 pub put_field-requires-2 : goal.put_field-requires-2
 put_field-requires-2 c =
-    let d = c in
-    let e = d in
-    (omega arith, room_next _ _ _ _ _ (room-same _ (codec-set _ e.if-flag-eq0.false) e.requires) d.put_field-next.ensures d.put_field-next.auto.out)
+    (omega arith, room_next _ _ _ _ _ (room-same _ (codec-set _ c.if-flag-eq0.false) c.requires) c.put_field-next.ensures c.put_field-next.auto.out)
 
 pub returns : goal.returns
 returns c =
-    let d = c in
-    rw (codec-set _ d.if-flag-eq0.false) (then-put _ _ _ _ _ _ d.put_field-next.ensures c.put_field-2.ensures)
+    rw (codec-set _ c.if-flag-eq0.false) (then-put _ _ _ _ _ _ c.put_field-next.ensures c.put_field-2.ensures)

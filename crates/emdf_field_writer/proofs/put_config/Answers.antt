@@ -12,16 +12,14 @@ pub put_codec_data-codec-requires : goal.put_codec_data-codec-requires
 put_codec_data-codec-requires c =
     let after-timing : let t = c.args.t in
     Room c.put_timing-timing.new.out c.put_timing-timing.result.0 (codec_data_bits t.codec_data_present ⨟ controls_bits t) = room_next _ _ _ _ _ (room-same _ (config-parts _) c.requires) c.put_timing-timing.ensures c.put_timing-timing.auto.out in
-    room-first _ _ _ (after-timing)
+    room-first _ _ _ after-timing
 
 pub put_controls-requires : goal.put_controls-requires
 put_controls-requires c =
     let after-timing : let t = c.args.t in
     Room c.put_timing-timing.new.out c.put_timing-timing.result.0 (codec_data_bits t.codec_data_present ⨟ controls_bits t) = room_next _ _ _ _ _ (room-same _ (config-parts _) c.requires) c.put_timing-timing.ensures c.put_timing-timing.auto.out in
-    let d = c in
-    room_next _ _ _ _ _ (after-timing) d.put_codec_data-codec.ensures d.put_codec_data-codec.auto.out
+    room_next _ _ _ _ _ after-timing c.put_codec_data-codec.ensures c.put_codec_data-codec.auto.out
 
 pub returns : goal.returns
 returns c =
-    let d = c in
-    rw (config-parts _) (then-put _ _ _ _ _ _ d.put_timing-timing.ensures (then-put _ _ _ _ _ _ d.put_codec_data-codec.ensures c.put_controls.ensures))
+    rw (config-parts _) (then-put _ _ _ _ _ _ c.put_timing-timing.ensures (then-put _ _ _ _ _ _ c.put_codec_data-codec.ensures c.put_controls.ensures))

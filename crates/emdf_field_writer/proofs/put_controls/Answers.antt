@@ -29,51 +29,45 @@ pub put_present-second-requires : goal.put_present-second-requires
 unfolding controls_bits
 put_present-second-requires c =
     let room-discard : Room c.put_field-first.new.out c.put_field-first.result.0 (after-discard c.args.t) = room_next _ _ _ _ _ c.requires c.put_field-first.ensures c.put_field-first.auto.out in
-    (omega arith, room-first _ _ _ (room-discard))
+    (omega arith, room-first _ _ _ room-discard)
 
 pub put_present-third-requires : goal.put_present-third-requires
 unfolding controls_bits
 put_present-third-requires c =
     let room-discard : Room c.put_field-first.new.out c.put_field-first.result.0 (after-discard c.args.t) = room_next _ _ _ _ _ c.requires c.put_field-first.ensures c.put_field-first.auto.out in
-    let room-aligned : Room c.put_present-second.new.out c.put_present-second.result.0 (after-aligned c.args.t) = room_next _ _ _ _ _ (room-discard) c.put_present-second.ensures c.put_present-second.auto.out in
-    (omega arith, room-first _ _ _ (room-aligned))
+    let room-aligned : Room c.put_present-second.new.out c.put_present-second.result.0 (after-aligned c.args.t) = room_next _ _ _ _ _ room-discard c.put_present-second.ensures c.put_present-second.auto.out in
+    (omega arith, room-first _ _ _ room-aligned)
 
 pub put_present-fourth-requires : goal.put_present-fourth-requires
 unfolding controls_bits
 put_present-fourth-requires c =
     let room-discard : Room c.put_field-first.new.out c.put_field-first.result.0 (after-discard c.args.t) = room_next _ _ _ _ _ c.requires c.put_field-first.ensures c.put_field-first.auto.out in
-    let room-aligned : Room c.put_present-second.new.out c.put_present-second.result.0 (after-aligned c.args.t) = room_next _ _ _ _ _ (room-discard) c.put_present-second.ensures c.put_present-second.auto.out in
-    let room-create : Room c.put_present-third.new.out c.put_present-third.result.0 (after-create c.args.t) = room_next _ _ _ _ _ (room-aligned) c.put_present-third.ensures c.put_present-third.auto.out in
-    (omega arith, room-first _ _ _ (room-create))
+    let room-aligned : Room c.put_present-second.new.out c.put_present-second.result.0 (after-aligned c.args.t) = room_next _ _ _ _ _ room-discard c.put_present-second.ensures c.put_present-second.auto.out in
+    let room-create : Room c.put_present-third.new.out c.put_present-third.result.0 (after-create c.args.t) = room_next _ _ _ _ _ room-aligned c.put_present-third.ensures c.put_present-third.auto.out in
+    (omega arith, room-first _ _ _ room-create)
 
 pub put_present-fifth-requires : goal.put_present-fifth-requires
 unfolding controls_bits
 put_present-fifth-requires c =
     let room-discard : Room c.put_field-first.new.out c.put_field-first.result.0 (after-discard c.args.t) = room_next _ _ _ _ _ c.requires c.put_field-first.ensures c.put_field-first.auto.out in
-    let room-aligned : Room c.put_present-second.new.out c.put_present-second.result.0 (after-aligned c.args.t) = room_next _ _ _ _ _ (room-discard) c.put_present-second.ensures c.put_present-second.auto.out in
-    let room-create : Room c.put_present-third.new.out c.put_present-third.result.0 (after-create c.args.t) = room_next _ _ _ _ _ (room-aligned) c.put_present-third.ensures c.put_present-third.auto.out in
-    let room-remove : Room c.put_present-fourth.new.out c.put_present-fourth.result.0 (after-remove c.args.t) = room_next _ _ _ _ _ (room-create) c.put_present-fourth.ensures c.put_present-fourth.auto.out in
-    (omega arith, room-first _ _ _ (room-remove))
+    let room-aligned : Room c.put_present-second.new.out c.put_present-second.result.0 (after-aligned c.args.t) = room_next _ _ _ _ _ room-discard c.put_present-second.ensures c.put_present-second.auto.out in
+    let room-create : Room c.put_present-third.new.out c.put_present-third.result.0 (after-create c.args.t) = room_next _ _ _ _ _ room-aligned c.put_present-third.ensures c.put_present-third.auto.out in
+    let room-remove : Room c.put_present-fourth.new.out c.put_present-fourth.result.0 (after-remove c.args.t) = room_next _ _ _ _ _ room-create c.put_present-fourth.ensures c.put_present-fourth.auto.out in
+    (omega arith, room-first _ _ _ room-remove)
 
 pub put_present-requires : goal.put_present-requires
 unfolding controls_bits
 put_present-requires c =
     let room-discard : Room c.put_field-first.new.out c.put_field-first.result.0 (after-discard c.args.t) = room_next _ _ _ _ _ c.requires c.put_field-first.ensures c.put_field-first.auto.out in
-    let room-aligned : Room c.put_present-second.new.out c.put_present-second.result.0 (after-aligned c.args.t) = room_next _ _ _ _ _ (room-discard) c.put_present-second.ensures c.put_present-second.auto.out in
-    let room-create : Room c.put_present-third.new.out c.put_present-third.result.0 (after-create c.args.t) = room_next _ _ _ _ _ (room-aligned) c.put_present-third.ensures c.put_present-third.auto.out in
-    let room-remove : Room c.put_present-fourth.new.out c.put_present-fourth.result.0 (after-remove c.args.t) = room_next _ _ _ _ _ (room-create) c.put_present-fourth.ensures c.put_present-fourth.auto.out in
-    let d = c in
-    (omega arith, room_next _ _ _ _ _ (room-remove) d.put_present-fifth.ensures d.put_present-fifth.auto.out)
+    let room-aligned : Room c.put_present-second.new.out c.put_present-second.result.0 (after-aligned c.args.t) = room_next _ _ _ _ _ room-discard c.put_present-second.ensures c.put_present-second.auto.out in
+    let room-create : Room c.put_present-third.new.out c.put_present-third.result.0 (after-create c.args.t) = room_next _ _ _ _ _ room-aligned c.put_present-third.ensures c.put_present-third.auto.out in
+    let room-remove : Room c.put_present-fourth.new.out c.put_present-fourth.result.0 (after-remove c.args.t) = room_next _ _ _ _ _ room-create c.put_present-fourth.ensures c.put_present-fourth.auto.out in
+    (omega arith, room_next _ _ _ _ _ room-remove c.put_present-fifth.ensures c.put_present-fifth.auto.out)
 
 pub returns : goal.returns
 unfolding controls_bits
 returns c =
-    let priority = c in
-    let remove = priority in
-    let create = remove in
-    let aligned = create in
-    let discard = aligned in
-    then-put _ _ _ _ _ _ discard.put_field-first.ensures
-    (then-put _ _ _ _ _ _ aligned.put_present-second.ensures
-    (then-put _ _ _ _ _ _ create.put_present-third.ensures
-    (then-put _ _ _ _ _ _ remove.put_present-fourth.ensures (then-put _ _ _ _ _ _ priority.put_present-fifth.ensures c.put_present.ensures))))
+    then-put _ _ _ _ _ _ c.put_field-first.ensures
+    (then-put _ _ _ _ _ _ c.put_present-second.ensures
+    (then-put _ _ _ _ _ _ c.put_present-third.ensures
+    (then-put _ _ _ _ _ _ c.put_present-fourth.ensures (then-put _ _ _ _ _ _ c.put_present-fifth.ensures c.put_present.ensures))))

@@ -9,6 +9,5 @@ overflow_add-result c = let a = c.args in omega (arith, length-number a.width a.
 
 pub returns : goal.returns
 returns c =
-    let e = c in
-    let a = e.args in
-    (omega (arith, length-number a.width a.v), c.put_number.ensures.1 ∙ number_fits _ _ _ _ e.requires.0 e.requires.1)
+    let a = c.args in
+    (omega (arith, length-number a.width a.v), c.put_number.ensures.1 ∙ number_fits _ _ _ _ c.requires.0 c.requires.1)

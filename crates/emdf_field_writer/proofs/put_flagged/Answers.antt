@@ -6,23 +6,19 @@ use Rattle.emdf_field_writer.proofs.put_flagged.Goals as goal
 
 pub put_field-requires : goal.put_field-requires
 put_field-requires c =
-    let a = c in
-    (omega arith, room-same _ (flag-clear (variable_field a.args.width) c.in-Absent.is) a.requires.2)
+    (omega arith, room-same _ (flag-clear (variable_field c.args.width) c.in-Absent.is) c.requires.2)
 
 pub put_field-flag-requires : goal.put_field-flag-requires
 put_field-flag-requires c = (omega arith, room-first _ _ _ (room-same _ (variable-set _ c.in-Present.is) c.requires.2))
 
 pub put_variable-requires : goal.put_variable-requires
 put_variable-requires c =
-    let d = c in
-    let e = d in
-    let p = e.requires in
-    (p.0, p.1, omega arith, room_next _ _ _ _ _ (room-same _ (variable-set _ e.in-Present.is) p.2) d.put_field-flag.ensures d.put_field-flag.auto.out)
+    let p = c.requires in
+    (p.0, p.1, omega arith, room_next _ _ _ _ _ (room-same _ (variable-set _ c.in-Present.is) p.2) c.put_field-flag.ensures c.put_field-flag.auto.out)
 
 pub returns-in-Absent : goal.returns-in-Absent
 returns-in-Absent c = rw (flag-clear (variable_field c.args.width) c.in-Absent.is) c.put_field.ensures
 
 pub returns-in-Present : goal.returns-in-Present
 returns-in-Present c =
-    let d = c in
-    rw (variable-set _ d.in-Present.is) (then-put _ _ _ _ _ _ d.put_field-flag.ensures c.put_variable.ensures)
+    rw (variable-set _ c.in-Present.is) (then-put _ _ _ _ _ _ c.put_field-flag.ensures c.put_variable.ensures)

@@ -10,12 +10,12 @@ nonzero_rem-low c = omega (arith, c.pow2.ensures, pow_pos c.args.width)
 
 pub overflow_mul-low : goal.overflow_mul-low
 overflow_mul-low c =
-    let small : let a = c.args in a.v % c.pow2.result * 2 + a.more < 2 ^ 64 = let e = c in group-small _ _ _ _ c.pow2.ensures e.requires.1 e.requires.0 in
+    let small : let a = c.args in a.v % c.pow2.result * 2 + a.more < 2 ^ 64 = group-small _ _ _ _ c.pow2.ensures c.requires.1 c.requires.0 in
     omega (arith, small)
 
 pub overflow_add-low : goal.overflow_add-low
 overflow_add-low c =
-    let small : let a = c.args in a.v % c.pow2.result * 2 + a.more < 2 ^ 64 = let e = c in group-small _ _ _ _ c.pow2.ensures e.requires.1 e.requires.0 in
+    let small : let a = c.args in a.v % c.pow2.result * 2 + a.more < 2 ^ 64 = group-small _ _ _ _ c.pow2.ensures c.requires.1 c.requires.0 in
     omega (arith, small)
 
 pub put_field-requires : goal.put_field-requires
@@ -25,5 +25,4 @@ put_field-requires c =
 
 pub returns : goal.returns
 returns c =
-    let d = c in
-    rw (← group-number _ _ _ _ d.pow2.ensures d.requires.1) c.put_field.ensures
+    rw (← group-number _ _ _ _ c.pow2.ensures c.requires.1) c.put_field.ensures

@@ -13,5 +13,4 @@ overflow_add-result c = omega (arith, length-octets c.args.s.now)
 
 pub returns : goal.returns
 returns c =
-    let e = c in
-    (omega (arith, length-octets e.args.s.now), ap octet_bits c.copy_bits.ensures.1 ∙ octets-fit _ _ _ e.requires)
+    (omega (arith, length-octets c.args.s.now), ap octet_bits c.copy_bits.ensures.1 ∙ octets-fit _ _ _ c.requires)

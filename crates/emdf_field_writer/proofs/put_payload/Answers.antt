@@ -15,18 +15,16 @@ unfolding payload_bits
 put_config-size-requires c =
     let after-id : let a = c.args in
     Room c.put_extended-settings.new.out c.put_extended-settings.result.0 (config_bits a.config ⨟ variable_field 8 (length a.body.now) ⨟ octet_bits a.body.now) = room_next _ _ _ _ _ c.requires c.put_extended-settings.ensures c.put_extended-settings.auto.out in
-    room-first _ _ _ (after-id)
+    room-first _ _ _ after-id
 
 pub put_body-requires : goal.put_body-requires
 unfolding payload_bits
 put_body-requires c =
     let after-id : let a = c.args in
     Room c.put_extended-settings.new.out c.put_extended-settings.result.0 (config_bits a.config ⨟ variable_field 8 (length a.body.now) ⨟ octet_bits a.body.now) = room_next _ _ _ _ _ c.requires c.put_extended-settings.ensures c.put_extended-settings.auto.out in
-    let d = c in
-    room_next _ _ _ _ _ (after-id) d.put_config-size.ensures d.put_config-size.auto.out
+    room_next _ _ _ _ _ after-id c.put_config-size.ensures c.put_config-size.auto.out
 
 pub returns : goal.returns
 unfolding payload_bits
 returns c =
-    let d = c in
-    then-put _ _ _ _ _ _ d.put_extended-settings.ensures (then-put _ _ _ _ _ _ d.put_config-size.ensures c.put_body.ensures)
+    then-put _ _ _ _ _ _ c.put_extended-settings.ensures (then-put _ _ _ _ _ _ c.put_config-size.ensures c.put_body.ensures)

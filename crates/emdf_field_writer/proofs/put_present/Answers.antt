@@ -5,13 +5,11 @@ use Rattle.emdf_field_writer.proofs.put_present.Goals as goal
 
 pub put_field-requires : goal.put_field-requires
 put_field-requires c =
-    let e = c in
-    (e.requires.0, room-same _ (field-present (number_bits e.args.width) c.in-Present.is) e.requires.1)
+    (c.requires.0, room-same _ (field-present (number_bits c.args.width) c.in-Present.is) c.requires.1)
 
 pub returns-in-Absent : goal.returns-in-Absent
 returns-in-Absent c = rw (field-absent (number_bits c.args.width) c.in-Absent.is) (none-put _ _)
 
 pub returns-in-Present : goal.returns-in-Present
 returns-in-Present c =
-    let d = c in
-    rw (field-present (number_bits d.args.width) d.in-Present.is) c.put_field.ensures
+    rw (field-present (number_bits c.args.width) c.in-Present.is) c.put_field.ensures

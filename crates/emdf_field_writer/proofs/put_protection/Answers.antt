@@ -15,30 +15,24 @@ put_field-first-requires c =
 pub put_field-codes-requires : goal.put_field-codes-requires
 put_field-codes-requires c =
     let a = c.args in
-    let d = c in
-    omega (arith, length-number 2 c.protection_code-2.result, length-number 2 d.protection_code.result, d.put_field-first.ensures.0, d.put_field-first.auto.out, length-protection a.primary.now a.secondary.now)
+    omega (arith, length-number 2 c.protection_code-2.result, length-number 2 c.protection_code.result, c.put_field-first.ensures.0, c.put_field-first.auto.out, length-protection a.primary.now a.secondary.now)
 
 pub put_octets-next-requires : goal.put_octets-next-requires
 put_octets-next-requires c =
     let after-codes : let a = c.args in
     Room c.put_field-codes.new.out c.put_field-codes.result.0 (octet_bits a.primary.now ⨟ octet_bits a.secondary.now) = let a = c.args in
-    let e = c in
-    omega (arith, length-number 2 c.protection_code-2.result, length-number 2 e.protection_code.result, c.put_field-codes.ensures.0, c.put_field-codes.auto.out, e.put_field-first.ensures.0, e.put_field-first.auto.out, length-protection a.primary.now a.secondary.now, length-then (octet_bits a.primary.now) (octet_bits a.secondary.now)) in
-    room-first _ _ _ (after-codes)
+    omega (arith, length-number 2 c.protection_code-2.result, length-number 2 c.protection_code.result, c.put_field-codes.ensures.0, c.put_field-codes.auto.out, c.put_field-first.ensures.0, c.put_field-first.auto.out, length-protection a.primary.now a.secondary.now, length-then (octet_bits a.primary.now) (octet_bits a.secondary.now)) in
+    room-first _ _ _ after-codes
 
 pub put_octets-requires : goal.put_octets-requires
 put_octets-requires c =
     let after-codes : let a = c.args in
     Room c.put_field-codes.new.out c.put_field-codes.result.0 (octet_bits a.primary.now ⨟ octet_bits a.secondary.now) = let a = c.args in
-    let e = c in
-    omega (arith, length-number 2 c.protection_code-2.result, length-number 2 e.protection_code.result, c.put_field-codes.ensures.0, c.put_field-codes.auto.out, e.put_field-first.ensures.0, e.put_field-first.auto.out, length-protection a.primary.now a.secondary.now, length-then (octet_bits a.primary.now) (octet_bits a.secondary.now)) in
-    let d = c in
-    room_next _ _ _ _ _ (after-codes) d.put_octets-next.ensures d.put_octets-next.auto.out
+    omega (arith, length-number 2 c.protection_code-2.result, length-number 2 c.protection_code.result, c.put_field-codes.ensures.0, c.put_field-codes.auto.out, c.put_field-first.ensures.0, c.put_field-first.auto.out, length-protection a.primary.now a.secondary.now, length-then (octet_bits a.primary.now) (octet_bits a.secondary.now)) in
+    room_next _ _ _ _ _ after-codes c.put_octets-next.ensures c.put_octets-next.auto.out
 
 pub returns : goal.returns
 unfolding protection_bits
 returns c =
-    let d = c in
-    let e = c in
-    rw (← e.protection_code.ensures, ← d.protection_code-2.ensures)
-    (then-put _ _ _ _ _ _ e.put_field-first.ensures (then-put _ _ _ _ _ _ d.put_field-codes.ensures (then-put _ _ _ _ _ _ c.put_octets-next.ensures c.put_octets.ensures)))
+    rw (← c.protection_code.ensures, ← c.protection_code-2.ensures)
+    (then-put _ _ _ _ _ _ c.put_field-first.ensures (then-put _ _ _ _ _ _ c.put_field-codes.ensures (then-put _ _ _ _ _ _ c.put_octets-next.ensures c.put_octets.ensures)))

@@ -15,5 +15,4 @@ overflow_add-result c =
 pub returns : goal.returns
 returns c =
     let count : let a = c.args in length (bit_run a.s.now a.from.0 a.n) ≡ a.n = length_run _ _ _ c.requires.1 in
-    let e = c in
-    (omega (arith, count), ap octet_bits c.copy_bits.ensures.1 ∙ run_fits _ _ _ _ _ e.requires.0 e.requires.1 e.requires.2)
+    (omega (arith, count), ap octet_bits c.copy_bits.ensures.1 ∙ run_fits _ _ _ _ _ c.requires.0 c.requires.1 c.requires.2)

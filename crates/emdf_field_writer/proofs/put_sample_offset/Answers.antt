@@ -15,22 +15,19 @@ put_field-flag-requires c = (omega arith, room-first _ _ _ (room-same _ (offset-
 
 pub put_field-value-requires : goal.put_field-value-requires
 put_field-value-requires c =
-    let after-flag : Room c.put_field-flag.new.out c.put_field-flag.result.0 (number_bits 11 c.in-Present.v ⨟ number_bits 1 0) = let d = c in
-    room_next _ _ _ _ _ (room-same _ (offset-set d.in-Present.is) d.requires) c.put_field-flag.ensures c.put_field-flag.auto.out in
-    (omega arith, room-first _ _ _ (after-flag))
+    let after-flag : Room c.put_field-flag.new.out c.put_field-flag.result.0 (number_bits 11 c.in-Present.v ⨟ number_bits 1 0) =
+    room_next _ _ _ _ _ (room-same _ (offset-set c.in-Present.is) c.requires) c.put_field-flag.ensures c.put_field-flag.auto.out in
+    (omega arith, room-first _ _ _ after-flag)
 
 pub put_field-requires-in-Present : goal.put_field-requires-in-Present
 put_field-requires-in-Present c =
-    let after-flag : Room c.put_field-flag.new.out c.put_field-flag.result.0 (number_bits 11 c.in-Present.v ⨟ number_bits 1 0) = let d = c in
-    room_next _ _ _ _ _ (room-same _ (offset-set d.in-Present.is) d.requires) c.put_field-flag.ensures c.put_field-flag.auto.out in
-    let d = c in
-    (omega arith, room_next _ _ _ _ _ (after-flag) d.put_field-value.ensures d.put_field-value.auto.out)
+    let after-flag : Room c.put_field-flag.new.out c.put_field-flag.result.0 (number_bits 11 c.in-Present.v ⨟ number_bits 1 0) =
+    room_next _ _ _ _ _ (room-same _ (offset-set c.in-Present.is) c.requires) c.put_field-flag.ensures c.put_field-flag.auto.out in
+    (omega arith, room_next _ _ _ _ _ after-flag c.put_field-value.ensures c.put_field-value.auto.out)
 
 pub returns-in-Absent : goal.returns-in-Absent
 returns-in-Absent c = rw (flag-clear sample_offset_bits c.in-Absent.is) c.put_field.ensures
 
 pub returns-in-Present : goal.returns-in-Present
 returns-in-Present c =
-    let d = c in
-    let e = d in
-    rw (offset-set e.in-Present.is) (then-put _ _ _ _ _ _ e.put_field-flag.ensures (then-put _ _ _ _ _ _ d.put_field-value.ensures c.put_field-in-Present.ensures))
+    rw (offset-set c.in-Present.is) (then-put _ _ _ _ _ _ c.put_field-flag.ensures (then-put _ _ _ _ _ _ c.put_field-value.ensures c.put_field-in-Present.ensures))

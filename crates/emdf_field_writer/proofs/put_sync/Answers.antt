@@ -7,8 +7,7 @@ put_u16-requires c = omega (arith, c.requires.0, length-sync c.args.size.0)
 
 pub put_u16-requires-2 : goal.put_u16-requires-2
 put_u16-requires-2 c =
-    let d = c in
-    omega (arith, d.put_u16.auto.out, d.requires.0, length-sync d.args.size.0)
+    omega (arith, c.put_u16.auto.out, c.requires.0, length-sync c.args.size.0)
 
 pub returns : goal.returns
 returns c = sync-put _ _ _ _ c.put_u16.ensures c.put_u16-2.ensures

@@ -13,18 +13,16 @@ unfolding timing_bits
 put_flagged-second-requires c =
     let after-offset : let t = c.args.t in
     Room c.put_sample_offset-first.new.out c.put_sample_offset-first.result.0 (flagged_field (variable_field 11) t.duration ⨟ flagged_field (variable_field 2) t.group_id) = room_next _ _ _ _ _ c.requires c.put_sample_offset-first.ensures c.put_sample_offset-first.auto.out in
-    (omega arith, omega arith, room-first _ _ _ (after-offset))
+    (omega arith, omega arith, room-first _ _ _ after-offset)
 
 pub put_flagged-requires : goal.put_flagged-requires
 unfolding timing_bits
 put_flagged-requires c =
     let after-offset : let t = c.args.t in
     Room c.put_sample_offset-first.new.out c.put_sample_offset-first.result.0 (flagged_field (variable_field 11) t.duration ⨟ flagged_field (variable_field 2) t.group_id) = room_next _ _ _ _ _ c.requires c.put_sample_offset-first.ensures c.put_sample_offset-first.auto.out in
-    let d = c in
-    (omega arith, omega arith, room_next _ _ _ _ _ (after-offset) d.put_flagged-second.ensures d.put_flagged-second.auto.out)
+    (omega arith, omega arith, room_next _ _ _ _ _ after-offset c.put_flagged-second.ensures c.put_flagged-second.auto.out)
 
 pub returns : goal.returns
 unfolding timing_bits
 returns c =
-    let d = c in
-    then-put _ _ _ _ _ _ d.put_sample_offset-first.ensures (then-put _ _ _ _ _ _ d.put_flagged-second.ensures c.put_flagged.ensures)
+    then-put _ _ _ _ _ _ c.put_sample_offset-first.ensures (then-put _ _ _ _ _ _ c.put_flagged-second.ensures c.put_flagged.ensures)

@@ -13,28 +13,24 @@ loop-left-init c = let z : c.args.n - c.args.n ≡ 0 = omega arith in (omega ari
 pub put_field-next-requires : goal.put_field-next-requires
 put_field-next-requires c =
     let o = c.loop-left in
-    let k = c in
-    omega (arith, length-number 64 0, length-number k.args.n 0, length-number (k.args.n - o.left) 0, o.invariant.0, o.invariant.1, o.invariant.2.0, k.requires, c.loop-left-test.true)
+    omega (arith, length-number 64 0, length-number c.args.n 0, length-number (c.args.n - o.left) 0, o.invariant.0, o.invariant.1, o.invariant.2.0, c.requires, c.loop-left-test.true)
 
 pub loop-left-preserved : goal.loop-left-preserved
 loop-left-preserved c =
-    let f = c in
-    let o = f.loop-left in
-    (omega (arith, o.invariant.0), f.put_field-next.auto.out ∙ o.invariant.1, zeros-put _ _ _ _ _ _ 64 o.invariant.0 (omega (arith, f.loop-left-test.true)) o.invariant.2 f.put_field-next.ensures)
+    let o = c.loop-left in
+    (omega (arith, o.invariant.0), c.put_field-next.auto.out ∙ o.invariant.1, zeros-put _ _ _ _ _ _ 64 o.invariant.0 (omega (arith, c.loop-left-test.true)) o.invariant.2 c.put_field-next.ensures)
 
 pub put_field-requires : goal.put_field-requires
 put_field-requires c =
     let o = c.loop-left in
-    let k = c in
-    omega (arith, length-number o.left 0, length-number k.args.n 0, length-number (k.args.n - o.left) 0, o.invariant.0, o.invariant.1, o.invariant.2.0, k.requires, c.loop-left-test.false)
+    omega (arith, length-number o.left 0, length-number c.args.n 0, length-number (c.args.n - o.left) 0, o.invariant.0, o.invariant.1, o.invariant.2.0, c.requires, c.loop-left-test.false)
 
 pub shape_of-out : goal.shape_of-out
-shape_of-out c = let f = c in f.put_field.auto.out ∙ f.loop-left.invariant.1
+shape_of-out c = c.put_field.auto.out ∙ c.loop-left.invariant.1
 
 pub returns : goal.returns
 returns c =
-    let f = c in
-    let o = f.loop-left in
-    let n = f.args.n in
+    let o = c.loop-left in
+    let n = c.args.n in
     let z : n - (o.left - o.left) ≡ n = omega arith in
-    rw z at (zeros-put _ _ _ _ n o.left o.left o.invariant.0 (omega arith) o.invariant.2 f.put_field.ensures)
+    rw z at (zeros-put _ _ _ _ n o.left o.left o.invariant.0 (omega arith) o.invariant.2 c.put_field.ensures)

@@ -13,7 +13,7 @@ overflow_sub-groups c =
     let found : let k = c.args in
     (c.in-Value.next.position ≡ k.c.position + (k.width + 1) * groups k.width c.in-Value.value)
     × (VariableAnswer.Value c.in-Value.value (groups k.width c.in-Value.value) c.in-Value.next ≡ variable_answer k.width k.c.end (variable_bits k.width k.limit k.s.now k.c.end k.c.position)) = variable-found _ _ _ _ (sym c.variable_field.ensures ∙ c.in-Value.is) in
-    omega (arith, (found).0)
+    omega (arith, found.0)
 
 pub returns-in-Value : goal.returns-in-Value
 returns-in-Value c =

@@ -17,7 +17,7 @@ pub overflow_shr-left-in-loop-left : goal.overflow_shr-left-in-loop-left
 overflow_shr-left-in-loop-left c = c.requires.1
 
 pub overflow_add-n : goal.overflow_add-n
-overflow_add-n c = let b = c in omega (arith, c.loop-left.invariant, groups-few b.args.width b.args.v b.requires.0 (omega arith))
+overflow_add-n c = omega (arith, c.loop-left.invariant, groups-few c.args.width c.args.v c.requires.0 (omega arith))
 
 pub loop-left-smaller : goal.loop-left-smaller
 loop-left-smaller c = omega (arith, shr_le (c.loop-left.left - 1) c.args.width)
@@ -28,7 +28,6 @@ loop-left-preserved c = omega (arith, c.loop-left.invariant, count-more c.args.w
 pub returns : goal.returns
 unfolding count_before
 returns c =
-    let b = c in
     let z : c.loop-left.left ≡ 0 = omega arith in
     let e = rw z at c.loop-left.invariant in
-    omega (arith, e, groups-few b.args.width b.args.v b.requires.0 (omega arith))
+    omega (arith, e, groups-few c.args.width c.args.v c.requires.0 (omega arith))

@@ -3,8 +3,6 @@ use mathlib.Core.Bool.{not}
 use Rattle.emdf_format.specs.Contents.{present_as_ruled}
 use Rattle.emdf_format.proofs.Standing.{fails, holds}
 use Rattle.emdf_measure.proofs.Asked.{stop, go, iff-yes, iff-no}
-use mathlib.Core.Path.{ap}
-use mathlib.Core.Bool.{not}
 use Rattle.emdf_measure.proofs.present_as_ruled.Goals as goal
 
 pub returns-then-not-at_most : goal.returns-then-not-at_most

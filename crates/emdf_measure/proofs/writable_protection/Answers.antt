@@ -4,8 +4,6 @@ use borrow.Author.Tests.{eq-eqb, ne_eqb}
 use Rattle.emdf_format.proofs.Standing.{fails, holds}
 use Rattle.emdf_measure.proofs.Asked.{stop, go}
 use Rattle.emdf_measure.specs.Parts.{writable_protection}
-use mathlib.Core.Path.{ap}
-use mathlib.Core.Bool.{not}
 use Rattle.emdf_measure.proofs.writable_protection.Goals as goal
 
 pub returns-then-primary-eq0 : goal.returns-then-primary-eq0

@@ -8,7 +8,7 @@ use Rattle.emdf_ordinals.proofs.find_payload.Goals as goal
 pub slice_bounds-find_from-end : goal.slice_bounds-find_from-end
 slice_bounds-find_from-end c =
     let opening : Opened c.args.bytes.now c.in-Open.parsed c.in-Open.first = opened _ (sym c.open_carrier-a.ensures ∙ c.in-Open.is) in
-    sym (length-take-le _ _ (opening).there)
+    sym (length-take-le _ _ opening.there)
 
 pub find_from-requires : goal.find_from-requires
 find_from-requires c =

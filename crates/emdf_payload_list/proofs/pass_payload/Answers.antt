@@ -21,7 +21,6 @@ compact_groups-groups-requires c = c.compact_at-found.ensures.head
 pub returns : goal.returns
 unfolding compact_step list_step
 returns c =
-    let d = c in
-    let a = d.compact_at-found.ensures in
-    let z = ne_eqb _ 0 d.if-found-eq0-2.false in
+    let a = c.compact_at-found.ensures in
+    let z = ne_eqb _ 0 c.if-found-eq0-2.false in
     rw (a.is (omega arith), z, a.groups (omega arith) z, c.larger.ensures, c.compact_groups-groups.ensures)

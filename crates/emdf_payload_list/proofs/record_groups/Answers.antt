@@ -11,9 +11,4 @@ extended_groups-id-requires c = (omega arith, omega arith, refl)
 pub returns : goal.returns
 unfolding record_groups
 returns c =
-    let b = c in
-    let d = b in
-    let e = d in
-    let l = e in
-    let o = l in
-    rw (c.larger-2.ensures, b.bits_between.ensures, d.larger.ensures, e.extended_groups-id.ensures, l.larger-settings.ensures, o.optional_groups-2.ensures, o.optional_groups.ensures)
+    rw (c.larger-2.ensures, c.bits_between.ensures, c.larger.ensures, c.extended_groups-id.ensures, c.larger-settings.ensures, c.optional_groups-2.ensures, c.optional_groups.ensures)

@@ -26,6 +26,4 @@ returns-then-e-ne-KEY c = simp (eq-eqb _ _ c.if-e-ne0.false, ne_eqb _ _ c.if-e-e
 
 pub returns : goal.returns
 returns c =
-    let d = c in
-    let e = d in
-    allowed-key _ _ e.if-e-ne0.false e.if-e-eq-DROP.false e.if-n-e.false d.if-e-eq-BODY.false d.if-e-ne-KEY.false
+    allowed-key _ _ c.if-e-ne0.false c.if-e-eq-DROP.false c.if-n-e.false c.if-e-eq-BODY.false c.if-e-ne-KEY.false

@@ -25,8 +25,7 @@ unfolding bringing writable_payload
 returns c =
     let few : c.id_bits.result + c.config_bits.result ≤ 2821 = omega (arith, c.id_bits.ensures, c.config_bits.ensures.1, extension-few 5 c.args.id (lit< tt) (lit< tt) (omega arith)) in
     let all-few : c.id_bits.result + c.config_bits.result + c.size_bits.result ≤ 4096 = omega (arith, few, c.size_bits.ensures, groups-few 8 (length c.args.body.now) (lit< tt) (omega arith)) in
-    let k = c in
-    let a = k.args in
+    let a = c.args in
     let f : c.id_bits.result + c.config_bits.result + c.size_bits.result ≡ 5 + extension_bits 5 a.id + needed_config a.config + 9 * groups 8 (length a.body.now) =
     omega (arith, c.id_bits.ensures, c.config_bits.ensures.0, c.size_bits.ensures) in
-    (rw (k.writable_payload.ensures, f), all-few)
+    (rw (c.writable_payload.ensures, f), all-few)

@@ -7,15 +7,13 @@ use Rattle.emdf_rows.proofs.next_ordinal.Goals as goal
 
 pub last_ordinal-last-requires : goal.last_ordinal-last-requires
 last_ordinal-last-requires c =
-    let t = c in
-    let d = t in
-    (omega arith, omega arith, omega (arith, t.take_slot-rows.ensures.0, d.requires.0, (d.requires.1 d.args.id).0))
+    (omega arith, omega arith, omega (arith, c.take_slot-rows.ensures.0, c.requires.0, (c.requires.1 c.args.id).0))
 
 pub overflow_add-result : goal.overflow_add-result
 overflow_add-result c =
     let found : c.last_ordinal-last.result ≡ last_in c.args.table.now c.args.slots.now c.args.place c.args.id = let a = c.args in
     c.last_ordinal-last.ensures ∙ ap (λ (n : ℕ). last_ordinal (id_column a.table.now) (ordinal_column a.table.now) a.id n) c.take_slot-rows.ensures.0 in
-    let d = c in omega (arith, found, d.requires.0, (d.requires.1 d.args.id).1)
+    omega (arith, found, c.requires.0, (c.requires.1 c.args.id).1)
 
 pub returns : goal.returns
 returns c =

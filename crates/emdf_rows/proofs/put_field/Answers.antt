@@ -10,7 +10,6 @@ use Rattle.emdf_rows.proofs.put_field.Goals as goal
 
 pub returns : goal.returns
 returns c =
-    let p = c in
-    let f = p.args.field in
-    let six : List ℕ = sets p.args.answer.now 0 (words (reply_words f.reply)) in
-    (refl, c.put_word.ensures ∙ rw (p.put_words.ensures, p.reply_words-values.ensures) (ap (λ (w : List ℕ). sets six 48 w) (sym (words-one f.groups)) ∙ words-then _ 0 (reply_words f.reply) (f.groups ∷ []) refl ∙ words-whole _ _ (search rules)))
+    let f = c.args.field in
+    let six : List ℕ = sets c.args.answer.now 0 (words (reply_words f.reply)) in
+    (refl, c.put_word.ensures ∙ rw (c.put_words.ensures, c.reply_words-values.ensures) (ap (λ (w : List ℕ). sets six 48 w) (sym (words-one f.groups)) ∙ words-then _ 0 (reply_words f.reply) (f.groups ∷ []) refl ∙ words-whole _ _ (search rules)))

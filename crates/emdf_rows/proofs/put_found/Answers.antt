@@ -10,9 +10,6 @@ returns-in_default c found next e = absurd (c.in_default.not-Payload found next 
 pub returns : goal.returns
 returns c found next e =
     let small : c.in-Payload.record.id < 2 ^ 64 = omega arith in
-    let p = c in
-    let o = p in
-    let b = o in
-    let fits : o.next_ordinal-ordinal.result < 2 ^ 64 = omega arith in
-    let (f, g) = same-payload (sym b.next_payload-step.ensures ∙ b.in-Payload.is) e in
-    (rw f at (puts-numbered o.next_ordinal-ordinal.ensures p.put_row.ensures (small) fits), g)
+    let fits : c.next_ordinal-ordinal.result < 2 ^ 64 = omega arith in
+    let (f, g) = same-payload (sym c.next_payload-step.ensures ∙ c.in-Payload.is) e in
+    (rw f at (puts-numbered c.next_ordinal-ordinal.ensures c.put_row.ensures small fits), g)

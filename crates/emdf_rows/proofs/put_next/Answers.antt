@@ -11,10 +11,7 @@ compact_record-record-requires c =
 
 pub returns : goal.returns
 returns c found next e =
-    let p = c in
-    let o = p in
-    let r = o in
-    let small : r.compact_record-record.result.id < 2 ^ 64 = omega arith in
-    let fits : o.next_ordinal-ordinal.result < 2 ^ 64 = omega arith in
-    let (f, g) = compact-payload r.compact_at-found.ensures (omega arith) e in
-    (rw (r.compact_record-record.ensures ∙ f) at (puts-numbered o.next_ordinal-ordinal.ensures p.put_row.ensures small fits), g)
+    let small : c.compact_record-record.result.id < 2 ^ 64 = omega arith in
+    let fits : c.next_ordinal-ordinal.result < 2 ^ 64 = omega arith in
+    let (f, g) = compact-payload c.compact_at-found.ensures (omega arith) e in
+    (rw (c.compact_record-record.ensures ∙ f) at (puts-numbered c.next_ordinal-ordinal.ensures c.put_row.ensures small fits), g)

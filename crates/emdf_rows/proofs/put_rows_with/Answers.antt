@@ -11,24 +11,21 @@ loop-place-init c = (omega arith, refl, refl, λ xs d n. left-all xs c.requires.
 pub put_next-at-requires : goal.put_next-at-requires
 put_next-at-requires c =
     let l = c.loop-place in
-    let b = c in
-    let (xs, d, n) = b.requires.1 in
-    (omega (arith, l.invariant.0, l.invariant.1, b.requires.0, c.loop-place-test.true), left-searchable (l.invariant.3 xs d n) (omega (arith, l.invariant.0, length-ids-in xs, n)))
+    let (xs, d, n) = c.requires.1 in
+    (omega (arith, l.invariant.0, l.invariant.1, c.requires.0, c.loop-place-test.true), left-searchable (l.invariant.3 xs d n) (omega (arith, l.invariant.0, length-ids-in xs, n)))
 
 pub loop-place-preserved : goal.loop-place-preserved
 loop-place-preserved c =
-    let p = c in
-    let l = p.loop-place in
-    let b = p in
-    let h = p.loop-place-test.true in (
+    let l = c.loop-place in
+    let h = c.loop-place-test.true in (
       omega (arith, h),
       search rules,
       search rules,
       λ xs d n.
           let k = l.invariant.3 xs d n in
           let (row, next, e) = left-payload k h in
-          let (f, g) = p.put_next-at.ensures row next e in
-          rw g (left_step k e f (omega (arith, h, length-ids-in xs, n)) (omega (arith, h, l.invariant.1, b.requires.0))),
+          let (f, g) = c.put_next-at.ensures row next e in
+          rw g (left_step k e f (omega (arith, h, length-ids-in xs, n)) (omega (arith, h, l.invariant.1, c.requires.0))),
     )
 
 pub shape_of-table : goal.shape_of-table

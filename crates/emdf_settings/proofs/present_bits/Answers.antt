@@ -1,11 +1,10 @@
-use mathlib.Core.Path.{refl, sym, ◌∙◌}
+use mathlib.Core.Path.{refl, sym, ◌∙◌, ap}
 use Rattle.emdf_format.proofs.Standing.{T_of}
 use Rattle.emdf_format.specs.Reader.{present, give}
 use Rattle.emdf_settings.specs.Settings.{optional_answer}
 use Rattle.emdf_settings.specs.declared.OptionalAnswer.TheVariants.{Refused}
 use Rattle.emdf_fields.proofs.Answers.{field_found, via, this, that, by_field}
 use Rattle.emdf_settings.proofs.Answers.{optional-refuses}
-use mathlib.Core.Path.{ap}
 use mathlib.Core.Bool.{not}
 use Rattle.emdf_settings.proofs.present_bits.Goals as goal
 

@@ -1,9 +1,8 @@
-use mathlib.Core.Path.{refl, sym, ◌∙◌}
+use mathlib.Core.Path.{refl, sym, ◌∙◌, ap}
 use native.Mathlib.Omega.{arith}
 use Rattle.emdf_format.proofs.Standing.{fails, holds}
 use Rattle.emdf_measure.proofs.Asked.{stop, go}
 use Rattle.emdf_settings_bytes.proofs.Settings.{pairs-all, pairs_next, pairs-none}
-use mathlib.Core.Path.{ap}
 use mathlib.Core.Bool.{not}
 use Rattle.emdf_settings_bytes.proofs.pairs_formed.Goals as goal
 

@@ -1,9 +1,8 @@
 use borrow.Author.Tests.{eq-eqb, ne_eqb}
-use mathlib.Core.Path.{◌∙◌}
+use mathlib.Core.Path.{◌∙◌, ap}
 use Rattle.emdf_format.specs.Contents.{◌&◌}
 use Rattle.emdf_format.proofs.Standing.{fails, holds}
 use Rattle.emdf_settings_bytes.specs.Settings.{settings_of}
-use mathlib.Core.Path.{ap}
 use mathlib.Core.Bool.{not}
 use Rattle.emdf_settings_bytes.proofs.settings_of.Goals as goal
 

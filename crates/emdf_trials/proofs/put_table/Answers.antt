@@ -12,10 +12,9 @@ loop-i-init c = (omega arith, refl, rw sub-zero)
 
 pub loop-i-preserved : goal.loop-i-preserved
 loop-i-preserved c =
-    let b = c in
     let e = c.put_row.ensures in
-    let k : b.loop-i.i < length b.args.lent = omega arith in
-    (omega arith, ap length e ∙ simp length-sets b.loop-i.invariant.1, rw e (row-stored _ _ _ _ _ c.loop-i-test.true k) ∙ b.loop-i.invariant.2)
+    let k : c.loop-i.i < length c.args.lent = omega arith in
+    (omega arith, ap length e ∙ simp length-sets c.loop-i.invariant.1, rw e (row-stored _ _ _ _ _ c.loop-i-test.true k) ∙ c.loop-i.invariant.2)
 
 pub shape_of-table : goal.shape_of-table
 shape_of-table c = c.loop-i.invariant.1

@@ -13,24 +13,22 @@ returns-then-not-has_bits c = run-away _ _ _ _ _ (sym c.has_bits.ensures ∙ c.i
 pub returns-then-not-has_bits-2 : goal.returns-then-not-has_bits-2
 returns-then-not-has_bits-2 c =
     let there : let a = c.args in leb (a.from + a.n) (bit_length a.s.now) ≡ true = sym c.has_bits.ensures ∙ c.if-not-has_bits.false in
-    run_out _ _ _ _ _ (there) (sym c.has_bits-2.ensures ∙ c.if-not-has_bits-2.true)
+    run_out _ _ _ _ _ there (sym c.has_bits-2.ensures ∙ c.if-not-has_bits-2.true)
 
 pub copy_run-requires : goal.copy_run-requires
 copy_run-requires c =
     let there : let a = c.args in leb (a.from + a.n) (bit_length a.s.now) ≡ true = sym c.has_bits.ensures ∙ c.if-not-has_bits.false in
     let room : let a = c.args in leb (a.at + a.n) (bit_length a.out.now) ≡ true = sym c.has_bits-2.ensures ∙ c.if-not-has_bits-2.false in
-    let i = inside _ _ _ (room) in
-    let j = inside _ _ _ (there) in
+    let i = inside _ _ _ room in
+    let j = inside _ _ _ there in
     (i.within, j.within, i.small, j.small)
 
 pub returns : goal.returns
 returns c =
     let there : let a = c.args in leb (a.from + a.n) (bit_length a.s.now) ≡ true = sym c.has_bits.ensures ∙ c.if-not-has_bits.false in
     let room : let a = c.args in leb (a.at + a.n) (bit_length a.out.now) ≡ true = sym c.has_bits-2.ensures ∙ c.if-not-has_bits-2.false in
-    let d = c in
-    let e = d in
     let t = there in
-    let h = run_in _ _ _ _ _ t (room) in
-    let i = inside _ _ _ (room) in
+    let h = run_in _ _ _ _ _ t room in
+    let i = inside _ _ _ room in
     let j = inside _ _ _ t in
-    (h.0, as-bit-by-bit _ _ _ _ _ _ (λ k. (e.slice_known-1.given k).fits) (λ k. (c.slice_known-2-1.given k).fits) i.within j.within c.copy_run.ensures ∙ h.1)
+    (h.0, as-bit-by-bit _ _ _ _ _ _ (λ k. (c.slice_known-1.given k).fits) (λ k. (c.slice_known-2-1.given k).fits) i.within j.within c.copy_run.ensures ∙ h.1)

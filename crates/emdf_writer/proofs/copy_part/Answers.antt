@@ -13,12 +13,11 @@ pub put_part-requires : goal.put_part-requires
 put_part-requires c =
     let value : let a = c.args in c.octet_at-octet.result / 2 ^ (8 - a.t) ≡ bits_value a.s.now a.from a.t = let a = c.args in
     rw c.octet_at-octet.ensures (octet-part a.s.now a.from a.t (omega arith)) in
-    (omega arith, rw (value) (value-range _ _ _), omega arith)
+    (omega arith, rw value (value-range _ _ _), omega arith)
 
 pub returns : goal.returns
 returns c =
     let value : let a = c.args in c.octet_at-octet.result / 2 ^ (8 - a.t) ≡ bits_value a.s.now a.from a.t = let a = c.args in
     rw c.octet_at-octet.ensures (octet-part a.s.now a.from a.t (omega arith)) in
-    let w = c in
-    let a = w.args in
+    let a = c.args in
     c.put_part.ensures ∙ rw (value, ← run_value a.s.now a.from a.t (omega arith))

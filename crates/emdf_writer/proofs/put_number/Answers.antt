@@ -15,6 +15,5 @@ put_parts-requires c =
 
 pub returns : goal.returns
 returns c =
-    let d = c in
-    let h = number_in _ _ _ _ d.if-width-gt64.false (sym d.has_bits.ensures ∙ d.if-not-has_bits.false) in
+    let h = number_in _ _ _ _ c.if-width-gt64.false (sym c.has_bits.ensures ∙ c.if-not-has_bits.false) in
     (h.0, c.put_parts.ensures ∙ h.1)

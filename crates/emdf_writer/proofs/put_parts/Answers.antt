@@ -17,11 +17,10 @@ put_part-requires c = (omega arith, rw c.pow2.ensures (mod-lt _ (pow_pos c.least
 
 pub loop-n-preserved : goal.loop-n-preserved
 loop-n-preserved c =
-    let d = c in
-    let o = d.loop-n in
-    let t = d.least-t.result in
-    let a = d.args in
-    (omega arith, omega arith, d.put_part.auto.out ∙ o.invariant.2, rw (d.put_part.ensures, d.pow2.ensures) (number_more (octet_bits o.out) o.p o.n t a.v (omega arith) ∙ o.invariant.3))
+    let o = c.loop-n in
+    let t = c.least-t.result in
+    let a = c.args in
+    (omega arith, omega arith, c.put_part.auto.out ∙ o.invariant.2, rw (c.put_part.ensures, c.pow2.ensures) (number_more (octet_bits o.out) o.p o.n t a.v (omega arith) ∙ o.invariant.3))
 
 pub shape_of-out : goal.shape_of-out
 shape_of-out c = c.loop-n.invariant.2

@@ -1,8 +1,6 @@
 use mathlib.Core.Path.{ap, ◌∙◌}
 use mathlib.Core.Bool.{not}
 use Rattle.joc_configs.proofs.Profile.{absent-differs, present-differs}
-use mathlib.Core.Path.{ap}
-use mathlib.Core.Bool.{not}
 use Rattle.joc_configs.proofs.differs.Goals as goal
 
 pub returns-in-Absent : goal.returns-in-Absent

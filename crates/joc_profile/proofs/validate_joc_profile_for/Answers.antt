@@ -11,7 +11,7 @@ returns-in_default c = refused-verdict _ _ c.open_carrier-a.ensures c.in_default
 pub slice_bounds-find_pair-end : goal.slice_bounds-find_pair-end
 slice_bounds-find_pair-end c =
     let opening : Opened c.args.bytes.now c.in-Open.parsed c.in-Open.first = opened _ (sym c.open_carrier-a.ensures ∙ c.in-Open.is) in
-    sym (length-take-le _ _ (opening).there)
+    sym (length-take-le _ _ opening.there)
 
 pub returns-in_default-pair : goal.returns-in_default-pair
 returns-in_default-pair c =

@@ -28,8 +28,7 @@ overflow_add-value c =
 pub loop-k-preserved : goal.loop-k-preserved
 loop-k-preserved c =
     let byte : (i : ℕ) → get_or c.args.s.now i 0 < 2 ^ 8 = λ i. (c.shared_slice_known-1.given i).fits in
-    let k = c in
-    let a = k.args in
+    let a = c.args in
     let l = c.loop-k in
     let e : (l.k + 1 - a.i) * 8 ≡ (l.k - a.i) * 8 + 8 = omega arith in
     let f : a.i + (l.k - a.i) ≡ l.k = omega arith in
