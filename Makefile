@@ -1,6 +1,7 @@
 # make test        every test: the proofs, must-fail edits and stored runs, the comparison with the Rust original, the runs of emdfcheck, emdf and the panel
 # make emdfcheck   proves and builds target/bin/emdfcheck
 # make lib         proves and builds $(LIBRARY), for include/emdf.h
+# make trials      proves and builds, beside the library, the calls that only tests/differential makes
 # make emdf        builds target/bin/emdf, a program in C that inspects and edits carriers, on the proved library
 # make panel       builds target/bin/panel, an example of a host in C, on the proved library
 # make install     puts headers, library, emdf.pc, the names, emdf with its man page and NOTICE under PREFIX
