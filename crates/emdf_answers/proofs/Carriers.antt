@@ -3,24 +3,23 @@ use mathlib.Core.Path.{◌≡◌, refl, ap, ◌∙◌}
 use mathlib.Core.List.{List, [], ◌∷◌, ◌++◌, append-nil, append_assoc}
 use Prim.Native.Nat.{ℕ}
 use lib.ListN.{get_or}
-use Rattle.emdf_format.specs.declared.Optional.{Optional}
-use Rattle.emdf_format.specs.declared.Optional.TheVariants.{Absent, Present}
+use Rattle.std.specs.Prelude.{Option, Some, None, unwrap_or}
 use Rattle.emdf_format.specs.declared.EmdfPayloadConfig.{EmdfPayloadConfig}
 use Rattle.emdf_answers.specs.Carriers.{optional_words, config_words}
 
 -- ---- a row
 
-abbrev pub presence_of : Optional → ℕ
+abbrev pub presence_of : Option ℕ → ℕ
 presence_of o = get_or (optional_words o) 0 0
 
-abbrev pub value_of : Optional → ℕ
-value_of o = get_or (optional_words o) 1 0
+abbrev pub value_of : Option ℕ → ℕ
+value_of o = unwrap_or o 0
 
 -- a setting's two numbers, and what follows them
-optional_then : (o : Optional) {xs ys : List ℕ} → xs ≡ ys → presence_of o ∷ value_of o ∷ xs ≡ optional_words o ++ ys
+optional_then : (o : Option ℕ) {xs ys : List ℕ} → xs ≡ ys → presence_of o ∷ value_of o ∷ xs ≡ optional_words o ++ ys
 unfolding optional_words
-optional_then Absent e = rw e
-optional_then (Present v) e = rw e
+optional_then None e = rw e
+optional_then (Some v) e = rw e
 
 -- the 18 numbers one by one
 abbrev pub listed : EmdfPayloadConfig → List ℕ

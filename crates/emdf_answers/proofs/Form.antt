@@ -46,16 +46,3 @@ number_read (v ∷ vs) zero h l =
 number_read (v ∷ vs) (suc k) h l =
     let e : 64 * suc k ≡ 8 * 8 + 64 * k = omega arith in
     rw e (sym (value-drop (big_endian 8 v ++ words vs) 8 (64 * k) 64) ∙ number_read vs k (omega arith) l)
-
--- a list by its elements, n of them from the i-th on
-abbrev elements : ℕ → ℕ → List ℕ → List ℕ
-elements i zero l = []
-elements i (suc n) l = get_or l i 0 ∷ elements (suc i) n l
-
-elements-later : (i n x : ℕ) (l : List ℕ) → elements (suc i) n (x ∷ l) ≡ elements i n l
-elements-later i zero x l = refl
-elements-later i (suc n) x l = ap (λ (m : List ℕ). get_or l i 0 ∷ m) (elements-later (suc i) n x l)
-
-pub elements-all : (l : List ℕ) → elements 0 (length l) l ≡ l
-elements-all [] = refl
-elements-all (x ∷ l) = ap (λ (m : List ℕ). x ∷ m) (elements-later 0 (length l) x l ∙ elements-all l)

@@ -1,4 +1,3 @@
 pub mod Form
 pub mod Carriers
 pub mod Protection
-pub mod Verdict

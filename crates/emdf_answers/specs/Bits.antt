@@ -1,11 +1,8 @@
 -- What each exported bit call returns and writes: docs/HOST.md, 'Bit calls'. Assumes nothing.
-use Rattle.std.specs.Prelude.{◌≡◌, ℕ, List, [], ◌∷◌, if◌then◌else◌}
+use Rattle.std.specs.Prelude.{Bool, ◌≡◌, ℕ, List, [], ◌∷◌, if◌then◌else◌, Result, Ok, Err}
+use Rattle.openjoc_bitio.specs.declared.BitError.{BitError}
 use Rattle.openjoc_bitio.specs.Cursor.{whole_slice, bits_remaining, read_bits, read_bit, take_bits, byte_align}
 use Rattle.openjoc_bitio.specs.declared.BitCursor.{BitCursor}
-use Rattle.openjoc_bitio.specs.declared.BitsAnswer.{BitsAnswer}
-use Rattle.openjoc_bitio.specs.declared.BitAnswer.{BitAnswer}
-use Rattle.openjoc_bitio.specs.declared.WindowAnswer.{WindowAnswer}
-use Rattle.openjoc_bitio.specs.declared.AlignAnswer.{AlignAnswer}
 use Rattle.emdf_format.specs.Reader.{cursor_at}
 use Rattle.emdf_format.specs.Refusals.{refusal_of, figures_of}
 use Rattle.emdf_format.specs.declared.EmdfError.{EmdfError}
@@ -41,21 +38,21 @@ accepted c v = figures_at c (record { number = 0; first = v; second = 0 })
 unfoldable pub refused_at : BitCursor → EmdfError → BitReply
 refused_at c why = figures_at c (figures_of (refusal_of why))
 
-unfoldable pub bits_reply : BitCursor → BitsAnswer → BitReply
-bits_reply c (BitsAnswer.Value v next) = accepted next v
-bits_reply c (BitsAnswer.Refused why) = refused_at c (Bit why)
+unfoldable pub bits_reply : BitCursor → Result (ℕ × BitCursor) BitError → BitReply
+bits_reply c (Ok (v, next)) = accepted next v
+bits_reply c (Err why) = refused_at c (Bit why)
 
-unfoldable pub bit_reply : BitCursor → BitAnswer → BitReply
-bit_reply c (BitAnswer.Bit b next) = accepted next (if b then 1 else 0)
-bit_reply c (BitAnswer.Refused why) = refused_at c (Bit why)
+unfoldable pub bit_reply : BitCursor → Result (Bool × BitCursor) BitError → BitReply
+bit_reply c (Ok (b, next)) = accepted next (if b then 1 else 0)
+bit_reply c (Err why) = refused_at c (Bit why)
 
-unfoldable pub window_reply : BitCursor → WindowAnswer → BitReply
-window_reply c (WindowAnswer.Window w next) = record { number = 0; first = 0; second = 0; cursor = next; window = w }
-window_reply c (WindowAnswer.Refused why) = refused_at c (Bit why)
+unfoldable pub window_reply : BitCursor → Result (BitCursor × BitCursor) BitError → BitReply
+window_reply c (Ok (w, next)) = record { number = 0; first = 0; second = 0; cursor = next; window = w }
+window_reply c (Err why) = refused_at c (Bit why)
 
-unfoldable pub align_reply : BitCursor → AlignAnswer → BitReply
-align_reply c (AlignAnswer.Aligned next) = accepted next 0
-align_reply c (AlignAnswer.Refused why) = refused_at c (Bit why)
+unfoldable pub align_reply : BitCursor → Result BitCursor BitError → BitReply
+align_reply c (Ok next) = accepted next 0
+align_reply c (Err why) = refused_at c (Bit why)
 
 -- ---- the exported calls: the library's answer at the host's cursor, in that form
 

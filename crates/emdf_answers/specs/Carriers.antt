@@ -1,18 +1,18 @@
 -- What the exported calls on a carrier return and write: docs/HOST.md, 'Carrier calls'. Assumes nothing.
-use Rattle.std.specs.Prelude.{◌≡◌, ℕ, ◌*◌, ◌/◌, List, [], ◌∷◌, ◌++◌, length, drop}
+use Rattle.std.specs.Prelude.{◌≡◌, ℕ, ◌*◌, ◌/◌, List, [], ◌∷◌, ◌++◌, length, drop, Option, Some, None, Result, Ok, Err}
+use Rattle.openjoc_bitio.specs.declared.ByteCount.{ByteCount}
+use Rattle.openjoc_bitio.specs.declared.BitOffset.{BitOffset}
+use Rattle.emdf_format.specs.declared.FindError.{FindError}
+use Rattle.emdf_format.specs.declared.BodyError.{BodyError}
 use Rattle.emdf_format.specs.Reading.{reading}
 use Rattle.emdf_format.specs.Refusals.{refusal_of, records_refusal, body_refusal, find_refusal, figures_of}
 use Rattle.emdf_format.specs.Ordinals.{rows_of}
 use Rattle.emdf_format.specs.Calls.{in_table, Records, recorded, unrecorded, move_body, found_at, scratch_after}
 use Rattle.emdf_format.specs.declared.Figures.{Figures}
-use Rattle.emdf_format.specs.declared.Optional.{Optional}
-use Rattle.emdf_format.specs.declared.Optional.TheVariants.{Absent, Present}
 use Rattle.emdf_format.specs.declared.EmdfPayloadConfig.{EmdfPayloadConfig}
 use Rattle.emdf_format.specs.declared.EmdfPayloadBitTrace.{EmdfPayloadBitTrace}
 use Rattle.emdf_format.specs.declared.PayloadRecord.{PayloadRecord}
 use Rattle.emdf_format.specs.declared.PayloadRow.{PayloadRow}
-use Rattle.emdf_format.specs.declared.BodyAnswer.{BodyAnswer}
-use Rattle.emdf_format.specs.declared.FindAnswer.{FindAnswer}
 use Rattle.openjoc_emdf.specs.Answers.{parsed_emdf}
 use Rattle.emdf_container.specs.declared.ProtectionBytes.{ProtectionBytes}
 use Rattle.openjoc_emdf.specs.declared.ParsedEmdf.{ParsedEmdf}
@@ -45,9 +45,9 @@ read_reply (unrecorded why) = refused_reply 10 (figures_of (records_refusal why)
 
 -- ---- the table: a row of 28 numbers a payload
 
-unfoldable pub optional_words : Optional → List ℕ
-optional_words Absent = 0 ∷ 0 ∷ []
-optional_words (Present v) = 1 ∷ v ∷ []
+unfoldable pub optional_words : Option ℕ → List ℕ
+optional_words None = 0 ∷ 0 ∷ []
+optional_words (Some v) = 1 ∷ v ∷ []
 
 -- the ten settings, in the order in which they are written: 18 numbers
 unfoldable pub config_words : EmdfPayloadConfig → List ℕ
@@ -106,9 +106,9 @@ class_reply (CarrierClassification.Malformed why) = malformed_reply (figures_of 
 
 -- ---- a body's move: 2 numbers
 
-unfoldable pub move_figures : BodyAnswer → Figures
-move_figures (BodyAnswer.Body start len) = record { number = 0; first = start.0; second = len.0 }
-move_figures (BodyAnswer.Refused why) = figures_of (body_refusal why)
+unfoldable pub move_figures : Result (BitOffset × ByteCount) BodyError → Figures
+move_figures (Ok (start, len)) = record { number = 0; first = start.0; second = len.0 }
+move_figures (Err why) = figures_of (body_refusal why)
 
 abbrev pub MoveReplies : List ℕ → ℕ → List ℕ → ℕ → List ℕ → List ℕ → Type 0
 MoveReplies s place scratch r answer exit =
@@ -117,6 +117,6 @@ MoveReplies s place scratch r answer exit =
 
 -- ---- a payload found by its id and ordinal: 2 numbers, the first of them its place
 
-abbrev pub find_figures : FindAnswer → Figures
-find_figures (FindAnswer.Place k) = record { number = 0; first = k; second = 0 }
-find_figures (FindAnswer.Refused why) = figures_of (find_refusal why)
+abbrev pub find_figures : Result ℕ FindError → Figures
+find_figures (Ok k) = record { number = 0; first = k; second = 0 }
+find_figures (Err why) = figures_of (find_refusal why)

@@ -1,7 +1,8 @@
 // The answers to a C host as numbers. docs/HOST.md has each byte form.
 #![tactic(auto)]
 
-ghost use Rattle.std.specs.Prelude.{◌≡◌, [], ◌∷◌, length, get_or};
+ghost use Rattle.std.specs.Prelude.{◌≡◌, [], ◌∷◌, length, get_or, MatchResult};
+ghost use Rattle.emdf_format.specs.Refusals.{figures_of};
 ghost use Rattle.emdf_format.specs.declared.Figures.{Figures};
 ghost use Rattle.emdf_answers.specs.Bits.{accepted, refused_at, bits_reply, bit_reply, window_reply, align_reply, figures_at};
 ghost use Rattle.emdf_answers.specs.Fields.{field_reply};
@@ -10,15 +11,13 @@ ghost use Rattle.emdf_answers.specs.Carriers.{parsed_words, optional_words, conf
 ghost use Rattle.emdf_answers.specs.Verdict.{profile_of, verdict_reply, status_word};
 ghost use Rattle.emdf_answers.specs.Edits.{edited_figures};
 
-use emdf_fields::VariableAnswer;
+use emdf_fields::FieldError;
 use emdf_format::{
-    BodyAnswer, EditAnswer, EmdfError, EmdfPayloadBitTrace, EmdfPayloadConfig, Figures, FindAnswer,
-    JocProfileAnswer, JocValidationProfile, JocValidationStatus, Optional,
+    BodyError, EditError, EmdfError, EmdfPayloadBitTrace, EmdfPayloadConfig, Figures, FindError,
+    JocProfileError, JocValidationProfile, JocValidationStatus, ValidatedJocProfile,
 };
-use emdf_refusals::{
-    body_refusal, edit_refusal, figures_of, find_refusal, profile_refusal, refusal_of,
-};
-use openjoc_bitio::{AlignAnswer, BitAnswer, BitCursor, BitsAnswer, WindowAnswer};
+use emdf_refusals::Numbered;
+use openjoc_bitio::{BitCursor, BitError, BitOffset, ByteCount};
 use openjoc_emdf::{CarrierClassification, ParsedEmdf};
 
 // An answer of the bit calls: its number, its value or its two figures, the cursor after it, and the window taken.
@@ -38,80 +37,81 @@ pub struct FieldReply {
     pub groups: u64,
 }
 
-pub fn field_reply(answer: VariableAnswer) -> FieldReply
+#[tactic(auto, unfolding(crate::specs::Fields::field_reply))]
+pub fn field_reply(answer: Result<(u64, usize, BitCursor), FieldError>) -> FieldReply
     ensures { result ≡ field_reply answer }
 {
     match answer {
-        VariableAnswer::Value(value, groups, next) => FieldReply {
+        Ok((value, groups, next)) => FieldReply {
             reply: accepted_at(next, value),
             groups: groups as u64,
         },
-        VariableAnswer::Refused(why, at) => FieldReply {
-            reply: refused_at(at, why),
+        Err(FieldError { why, cursor }) => FieldReply {
+            reply: refused_at(cursor, why),
             groups: 0,
         },
     }
 }
 
-pub fn bits_reply(cursor: BitCursor, answer: BitsAnswer) -> BitReply
+#[tactic(auto, unfolding(crate::specs::Bits::bits_reply))]
+pub fn bits_reply(cursor: BitCursor, answer: Result<(u64, BitCursor), BitError>) -> BitReply
     ensures { result ≡ bits_reply cursor answer }
 {
     match answer {
-        BitsAnswer::Value(value, next) => accepted_at(next, value),
-        BitsAnswer::Refused(why) => refused_at(cursor, EmdfError::Bit(why)),
+        Ok((value, next)) => accepted_at(next, value),
+        Err(why) => refused_at(cursor, EmdfError::Bit(why)),
     }
 }
 
-pub fn bit_reply(cursor: BitCursor, answer: BitAnswer) -> BitReply
+#[tactic(auto, unfolding(crate::specs::Bits::bits_reply, crate::specs::Bits::bit_reply))]
+pub fn bit_reply(cursor: BitCursor, answer: Result<(bool, BitCursor), BitError>) -> BitReply
     ensures { result ≡ bit_reply cursor answer }
 {
-    match answer {
-        BitAnswer::Bit(bit, next) => accepted_at(next, bit as u64),
-        BitAnswer::Refused(why) => refused_at(cursor, EmdfError::Bit(why)),
-    }
+    bits_reply(cursor, answer.map(|(bit, next)| (u64::from(bit), next)))
 }
 
-pub fn window_reply(cursor: BitCursor, answer: WindowAnswer) -> BitReply
+#[tactic(auto, unfolding(crate::specs::Bits::window_reply))]
+pub fn window_reply(cursor: BitCursor, answer: Result<(BitCursor, BitCursor), BitError>) -> BitReply
     ensures { result ≡ window_reply cursor answer }
 {
     match answer {
-        WindowAnswer::Window(window, next) => BitReply {
-            number: 0,
-            first: 0,
-            second: 0,
-            cursor: next,
+        Ok((window, next)) => BitReply {
             window,
+            ..accepted_at(next, 0)
         },
-        WindowAnswer::Refused(why) => refused_at(cursor, EmdfError::Bit(why)),
+        Err(why) => refused_at(cursor, EmdfError::Bit(why)),
     }
 }
 
-pub fn align_reply(cursor: BitCursor, answer: AlignAnswer) -> BitReply
+#[tactic(auto, unfolding(crate::specs::Bits::bits_reply, crate::specs::Bits::align_reply))]
+pub fn align_reply(cursor: BitCursor, answer: Result<BitCursor, BitError>) -> BitReply
     ensures { result ≡ align_reply cursor answer }
 {
-    match answer {
-        AlignAnswer::Aligned(next) => accepted_at(next, 0),
-        AlignAnswer::Refused(why) => refused_at(cursor, EmdfError::Bit(why)),
-    }
+    bits_reply(cursor, answer.map(|next| (0, next)))
 }
 
 pub fn accepted_at(cursor: BitCursor, value: u64) -> BitReply
     ensures { result ≡ accepted cursor value }
 {
-    figures_at(
-        cursor,
-        Figures {
-            number: 0,
-            first: value,
-            second: 0,
-        },
-    )
+    figures_at(cursor, accepted_figures(value, 0))
 }
 
+// Two figures of what is accepted.
+fn accepted_figures(first: u64, second: u64) -> Figures
+    ensures { result ≡ record { number = 0; first = first; second = second } }
+{
+    Figures {
+        number: 0,
+        first,
+        second,
+    }
+}
+
+#[tactic(auto, unfolding(crate::specs::Bits::refused_at))]
 fn refused_at(cursor: BitCursor, why: EmdfError) -> BitReply
     ensures { result ≡ refused_at cursor why }
 {
-    figures_at(cursor, figures_of(refusal_of(why)))
+    figures_at(cursor, why.figures())
 }
 
 fn figures_at(cursor: BitCursor, f: Figures) -> BitReply
@@ -130,6 +130,7 @@ fn figures_at(cursor: BitCursor, f: Figures) -> BitReply
 }
 
 // The class, and ten numbers.
+#[tactic(auto, unfolding(crate::specs::Carriers::class_reply, crate::specs::Replies::padded))]
 pub fn class_words(class: CarrierClassification) -> [u64; 11]
     ensures { result ≡ (class_reply class).numbers }
 {
@@ -141,31 +142,18 @@ pub fn class_words(class: CarrierClassification) -> [u64; 11]
             carrier_bytes,
         } => with_class(
             2,
-            [
-                container_bytes.0 as u64,
-                carrier_bytes.0 as u64,
-                0,
-                0,
-                0,
-                0,
-                0,
-                0,
-                0,
-                0,
-            ],
+            figure_words(accepted_figures(container_bytes.0 as u64, carrier_bytes.0 as u64)),
         ),
-        CarrierClassification::Malformed(why) => with_class(
-            3,
-            figure_words(figures_of(refusal_of(why))),
-        ),
+        CarrierClassification::Malformed(why) => with_class(3, figure_words(why.figures())),
     }
 }
 
+#[tactic(auto, unfolding(crate::specs::Carriers::class_reply))]
 pub fn class_number(class: CarrierClassification) -> u32
     ensures { result ≡ (class_reply class).number }
 {
     match class {
-        CarrierClassification::Malformed(why) => figures_of(refusal_of(why)).number,
+        CarrierClassification::Malformed(why) => why.figures().number,
         _ => 0,
     }
 }
@@ -173,9 +161,9 @@ pub fn class_number(class: CarrierClassification) -> u32
 fn with_class(class: u64, w: [u64; 10]) -> [u64; 11]
     ensures { result ≡ class ∷ w }
 {
-    [
-        class, w[0], w[1], w[2], w[3], w[4], w[5], w[6], w[7], w[8], w[9],
-    ]
+    let mut words = [class; 11];
+    words[1..].copy_from_slice(&w);
+    words
 }
 
 // An accepted reading's ten numbers.
@@ -200,6 +188,7 @@ pub fn parsed_words(p: ParsedEmdf) -> [u64; 10]
 }
 
 // Two figures, in the place of ten numbers.
+#[tactic(auto, unfolding(crate::specs::Replies::padded))]
 pub fn figure_words(f: Figures) -> [u64; 10]
     ensures { result ≡ padded 10 (f.first ∷ f.second ∷ []) }
 {
@@ -210,52 +199,33 @@ pub fn figure_words(f: Figures) -> [u64; 10]
 pub fn config_words(t: EmdfPayloadConfig) -> [u64; 18]
     ensures { result ≡ config_words t }
 {
-    let offset = t.sample_offset;
-    let duration = t.duration;
-    let group = t.group_id;
-    let aligned = t.payload_frame_aligned;
-    let create = t.create_duplicate;
-    let remove = t.remove_duplicate;
-    let priority = t.priority;
-    let processing = t.processing_allowed;
     [
-        presence(offset),
-        value_or_zero(offset),
-        presence(duration),
-        value_or_zero(duration),
-        presence(group),
-        value_or_zero(group),
+        presence(t.sample_offset),
+        t.sample_offset.unwrap_or(0),
+        presence(t.duration),
+        t.duration.unwrap_or(0),
+        presence(t.group_id),
+        t.group_id.unwrap_or(0),
         t.codec_data_present,
         t.discard_unknown_payload,
-        presence(aligned),
-        value_or_zero(aligned),
-        presence(create),
-        value_or_zero(create),
-        presence(remove),
-        value_or_zero(remove),
-        presence(priority),
-        value_or_zero(priority),
-        presence(processing),
-        value_or_zero(processing),
+        presence(t.payload_frame_aligned),
+        t.payload_frame_aligned.unwrap_or(0),
+        presence(t.create_duplicate),
+        t.create_duplicate.unwrap_or(0),
+        presence(t.remove_duplicate),
+        t.remove_duplicate.unwrap_or(0),
+        presence(t.priority),
+        t.priority.unwrap_or(0),
+        presence(t.processing_allowed),
+        t.processing_allowed.unwrap_or(0),
     ]
 }
 
-fn presence(o: Optional) -> u64
+#[tactic(auto, unfolding(crate::specs::Carriers::optional_words))]
+fn presence(o: Option<u64>) -> u64
     ensures { result ≡ get_or (optional_words o) 0 0 }
 {
-    match o {
-        Optional::Absent => 0,
-        Optional::Present(_) => 1,
-    }
-}
-
-fn value_or_zero(o: Optional) -> u64
-    ensures { result ≡ get_or (optional_words o) 1 0 }
-{
-    match o {
-        Optional::Absent => 0,
-        Optional::Present(value) => value,
-    }
+    u64::from(o.is_some())
 }
 
 pub fn trace_words(t: EmdfPayloadBitTrace) -> [u64; 8]
@@ -273,82 +243,74 @@ pub fn trace_words(t: EmdfPayloadBitTrace) -> [u64; 8]
     ]
 }
 
-pub fn find_figures(found: FindAnswer) -> Figures
+pub fn find_figures(found: Result<usize, FindError>) -> Figures
     ensures { result ≡ find_figures found }
 {
-    match found {
-        FindAnswer::Place(place) => Figures {
-            number: 0,
-            first: place as u64,
-            second: 0,
-        },
-        FindAnswer::Refused(why) => figures_of(find_refusal(why)),
-    }
+    answer_figures(found.map(|place| (place as u64, 0)))
 }
 
-pub fn move_figures(moved: BodyAnswer) -> Figures
+#[tactic(auto, unfolding(crate::specs::Carriers::move_figures))]
+pub fn move_figures(moved: Result<(BitOffset, ByteCount), BodyError>) -> Figures
     ensures { result ≡ move_figures moved }
 {
-    match moved {
-        BodyAnswer::Body(start, length) => Figures {
-            number: 0,
-            first: start.0 as u64,
-            second: length.0 as u64,
-        },
-        BodyAnswer::Refused(why) => figures_of(body_refusal(why)),
-    }
+    answer_figures(moved.map(|(start, length)| (start.0 as u64, length.0 as u64)))
 }
 
-pub fn edited_figures(edited: EditAnswer) -> Figures
+#[tactic(auto, unfolding(crate::specs::Edits::edited_figures))]
+pub fn edited_figures(edited: Result<ByteCount, EditError>) -> Figures
     ensures { result ≡ edited_figures edited }
 {
-    match edited {
-        EditAnswer::Written(length) => Figures {
-            number: 0,
-            first: length.0 as u64,
-            second: 0,
-        },
-        EditAnswer::Refused(why) => figures_of(edit_refusal(why)),
+    answer_figures(edited.map(|length| (length.0 as u64, 0)))
+}
+
+// Two figures of what is accepted, or the refusal's.
+pub fn answer_figures<E: Numbered>(answer: Result<(u64, u64), E>) -> Figures
+    ensures { MatchResult answer (λ (first, second). result ≡ record { number = 0; first = first; second = second })
+        (λ why. result ≡ figures_of (E.refusal why)) }
+{
+    match answer {
+        Ok((first, second)) => accepted_figures(first, second),
+        Err(why) => why.figures(),
     }
 }
 
+#[tactic(auto, unfolding(crate::specs::Verdict::profile_of))]
 pub fn profile_of(number: u32) -> JocValidationProfile
     ensures { result ≡ profile_of number }
 {
-    if number == 0 {
-        return JocValidationProfile::EtsiStrict;
+    match number {
+        0 => JocValidationProfile::EtsiStrict,
+        _ => JocValidationProfile::ObservedVendorCompat,
     }
-    JocValidationProfile::ObservedVendorCompat
 }
 
 // Both places, the marks, whether any is set and the largest number of groups, or a refusal's figures.
-pub fn verdict_words(judged: JocProfileAnswer) -> [u64; 5]
+#[tactic(auto, unfolding(crate::specs::Verdict::verdict_reply, crate::specs::Replies::padded))]
+pub fn verdict_words(judged: Result<ValidatedJocProfile, JocProfileError>) -> [u64; 5]
     ensures { result ≡ (verdict_reply judged).numbers }
 {
     match judged {
-        JocProfileAnswer::Accepted(v) => {
-            let status = v.status;
-            [
-                v.oamd as u64,
-                v.joc as u64,
-                v.deviations as u64,
-                status_word(status),
-                v.largest_groups as u64,
-            ]
-        }
-        JocProfileAnswer::Refused(why) => {
-            let f = figures_of(profile_refusal(why));
+        Ok(v) => [
+            v.oamd as u64,
+            v.joc as u64,
+            v.deviations as u64,
+            status_word(v.status),
+            v.largest_groups as u64,
+        ],
+        Err(why) => {
+            let f = why.figures();
             [f.first, f.second, 0, 0, 0]
         }
     }
 }
 
-pub fn verdict_number(judged: JocProfileAnswer) -> u32
+#[tactic(auto, unfolding(crate::specs::Verdict::verdict_reply))]
+pub fn verdict_number(judged: Result<ValidatedJocProfile, JocProfileError>) -> u32
     ensures { result ≡ (verdict_reply judged).number }
 {
     match judged {
-        JocProfileAnswer::Accepted(_) => 0,
-        JocProfileAnswer::Refused(why) => figures_of(profile_refusal(why)).number,
+        Ok(_) => 0,
+        Err(why) => why.figures().number,
     }
 }
 

@@ -10,12 +10,10 @@ use lib.Dec.{T, leb, eqb→eq, ltb→lt, lit<}
 use borrow.Author.Tests.{lt-ltb, le-leb, lt-leb}
 use Rattle.openjoc_bitio.specs.Bits.{number_bits}
 use Rattle.openjoc_bitio.proofs.Bits.{length-number}
-use Rattle.std.specs.Prelude.{if◌then◌else◌}
+use Rattle.std.specs.Prelude.{if◌then◌else◌, Result, Ok, Err}
 use Rattle.openjoc_bitio.specs.declared.ByteCount.{ByteCount}
 use Rattle.emdf_format.specs.declared.EditError.{EditError}
 use Rattle.emdf_format.specs.declared.EditError.TheVariants.{NotWritable, DestinationTooShort}
-use Rattle.emdf_format.specs.declared.EditAnswer.{EditAnswer}
-use Rattle.emdf_format.specs.declared.EditAnswer.TheVariants.{Written, Refused}
 use Rattle.emdf_format.specs.Syntax.{◌⨟◌, extended_field}
 use Rattle.emdf_format.specs.Contents.{Contents, ◌&◌, protection_length, protection_code, codable, writable, writable_payloads, contents_are_bytes, bodies_are_bytes, needed_bits, needed_payloads, declared, payloads_bits, protection_bits, container_bits, carrier_bits, carrier}
 use Rattle.emdf_format.specs.Edits.{Bytes, Stepped, changed, unchanged, carrier_length, in_room, step_answer, written, blank_contents, blank, Gives, ReadsAs, BlankReads}
@@ -81,25 +79,25 @@ module _ (key : ℕ) (a b : List ℕ) where
     unfolding writable writable_payloads writable_protection ◌&◌
     writable-blank = simp (lt-ltb key (2 ^ 64) key_fits)
 
-    abbrev Answers : EditAnswer → List ℕ → Type 0
+    abbrev Answers : Result ByteCount EditError → List ℕ → Type 0
     Answers = Gives (blank key a b dst)
 
-    pub not-writable : writable_protection a b ≡ false → Answers (Refused NotWritable) dst
+    pub not-writable : writable_protection a b ≡ false → Answers (Err NotWritable) dst
     unfolding blank step_answer written
     not-writable h = rw (writable-blank, h) (refl, refl)
 
     module _ (ok : writable_protection a b ≡ true) (n : ℕ) (e : n ≡ carrier_length c) where
-      pub no_room : length dst < n → Answers (Refused (DestinationTooShort (record { 0 = n }))) dst
+      pub no_room : length dst < n → Answers (Err (DestinationTooShort (record { 0 = n }))) dst
       unfolding blank in_room step_answer written
       no_room h = let l : length dst < carrier_length c = omega arith in simp (writable-blank, ok, lt-leb (carrier_length c) (length dst) l, e) (refl, refl)
 
-      pub in-room : n ≤ length dst → {d : List ℕ} → d ≡ carrier c ++ drop n dst → Answers (Written (record { 0 = n })) d
+      pub in-room : n ≤ length dst → {d : List ℕ} → d ≡ carrier c ++ drop n dst → Answers (Ok (record { 0 = n })) d
       unfolding blank in_room step_answer written
       in-room h {d} k = let l : carrier_length c ≤ length dst = omega arith in simp (writable-blank, ok, le-leb (carrier_length c) (length dst) l, e) (refl, k ∙ ap (λ (m : ℕ). carrier c ++ drop m dst) e)
 
 -- ---- what an accepted blank reads as
 
-asked : (t : Bool) (o : Stepped) (why : EditError) {n : ByteCount} → step_answer (if t then o else unchanged why) ≡ Written n → (t ≡ true) × (step_answer o ≡ Written n)
+asked : (t : Bool) (o : Stepped) (why : EditError) {n : ByteCount} → step_answer (if t then o else unchanged why) ≡ Ok n → (t ≡ true) × (step_answer o ≡ Ok n)
 unfolding step_answer
 asked true o why h = (refl, h)
 asked false o why h = absurd (let z : ◌≡◌ {A = ℕ} 0 1 = cc in omega arith)

@@ -6,7 +6,7 @@ ghost use Rattle.emdf_format.specs.Contents.{carrier_bits, declared};
 ghost use Rattle.emdf_format.specs.Edits.{blank_contents, blank, Gives};
 ghost use Rattle.emdf_field_writer.specs.Fields.{Put};
 
-use emdf_format::{EditAnswer, EditError};
+use emdf_format::EditError;
 use openjoc_bitio::{BitOffset, ByteCount};
 
 // The declared length of a blank carrier.
@@ -15,7 +15,7 @@ fn blank_declared(key: u64, primary: &[u8], secondary: &[u8]) -> ByteCount
     ensures { (result.0 ≡ declared (blank_contents key primary.now secondary.now)) × (result.0 < 65536) }
 {
     let bits = emdf_measure::key_bits(key) + 5 + 4 + 8 * (primary.len() + secondary.len());
-    ByteCount((bits + 7) / 8)
+    ByteCount(bits.div_ceil(8))
 }
 
 // The blank carrier, over bytes of its own length.
@@ -41,19 +41,19 @@ pub fn blank_carrier(
     primary: &[u8],
     secondary: &[u8],
     destination: &mut [u8],
-) -> EditAnswer
+) -> Result<ByteCount, EditError>
     ensures { Gives (blank key primary.now secondary.now destination.old) result destination.new }
 {
     if !emdf_measure::writable_protection(primary, secondary) {
-        return EditAnswer::Refused(EditError::NotWritable);
+        return Err(EditError::NotWritable);
     }
     let size = blank_declared(key, primary, secondary);
     let n = 4 + size.0;
     if destination.len() < n {
-        return EditAnswer::Refused(EditError::DestinationTooShort {
+        return Err(EditError::DestinationTooShort {
             needed: ByteCount(n),
         });
     }
     put_blank(&mut destination[..n], size, key, primary, secondary);
-    EditAnswer::Written(ByteCount(n))
+    Ok(ByteCount(n))
 }

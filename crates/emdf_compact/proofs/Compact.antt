@@ -8,15 +8,13 @@ use native.Mathlib.Decide.{dec_le}
 use lib.Dec.{leb→le, eqb, lit≤, lit<, eqb→eq}
 use lib.Pow.{pow_mono}
 use borrow.Author.Tests.{ne_eqb, lt-ltb, le-leb}
-use Rattle.std.specs.Prelude.{if◌then◌else◌}
+use Rattle.std.specs.Prelude.{if◌then◌else◌, Option, Some, None}
 use Rattle.openjoc_bitio.specs.Bits.{bits_value}
 use Rattle.openjoc_bitio.proofs.Bits.{value-split, value-range}
 use Rattle.emdf_format.specs.Syntax.{escape}
 use Rattle.emdf_format.specs.Contents.{◌&◌, is_present, is_one, has_aligned, has_priority}
 use Rattle.emdf_format.specs.Reader.{got, Reader, ◌>>=◌, give, ask, choose, bits, groups_from, variable_bits, extended_value, present, flagged}
 use Rattle.emdf_format.specs.Reading.{reserved, sample_offset_of, codec_data, config_controls, payload_config}
-use Rattle.emdf_format.specs.declared.Optional.{Optional}
-use Rattle.emdf_format.specs.declared.Optional.TheVariants.{Absent, Present}
 use Rattle.emdf_format.proofs.Standing.{bit_limit, bind-go, ask-go, choose-this, choose-that, give-go, ask-fine, T_of, T-not-of, and, both, fits, is_true}
 use Rattle.emdf_format.proofs.Loops.{bits-there}
 use Rattle.emdf_fields.specs.Word.{top, after}
@@ -40,7 +38,7 @@ module _ {s : List ℕ} {p m x : ℕ} (w : Word s p m x) (e : ℕ) where
   word-flagged f n h k t l g = by_flag (eqb (top 1 x) 0) refl h t l
     where
       by_flag : (z : Bool) → eqb (top 1 x) 0 ≡ z → (if z then 1 else n + 2) ≤ m → (z || eqb (top (n + 2) x % 2) 0) ≡ true → p + (if z then 1 else n + 2) ≤ bit_limit s e
-          → flagged f s e p ≡ got (if z then Absent else Present (top n (after 1 x))) (p + (if z then 1 else n + 2))
+          → flagged f s e p ≡ got (if z then None else Some (top n (after 1 x))) (p + (if z then 1 else n + 2))
       by_flag true i h t l =
           let o : top 1 x ≡ 0 = eqb→eq (top 1 x) 0 (T_of i) in
           bind-go (bits 1) _ (word-bits w e 1 (lit≤ tt) (omega arith) l) (choose-that _ _ _ (rw o tt) (give-go s e refl refl))
@@ -50,7 +48,7 @@ module _ {s : List ℕ} {p m x : ℕ} (w : Word s p m x) (e : ℕ) where
           let z : n + 1 + 1 ≡ n + 2 = omega arith in
           let a : bits_value s (p + 1 + n) 1 ≡ 0 = ap (λ (q : ℕ). bits_value s q 1) (sym y) ∙ sym (word_low w (n + 1) 1 (omega arith)) ∙ ap (λ (q : ℕ). top q x % 2) z ∙ eqb→eq (top (n + 2) x % 2) 0 (T_of t) in
           let b : bits_value s (p + 1) n ≡ top n (after 1 x) = sym ((word_after 1 k (omega arith) w).is n (omega arith)) in
-          bind-go (bits 1) _ (word-bits w e 1 (lit≤ tt) (omega arith) (omega arith)) (choose-this _ _ _ (rw o tt) (bind-go f _ (g a l) (give-go s e (ap Present b) refl)))
+          bind-go (bits 1) _ (word-bits w e 1 (lit≤ tt) (omega arith) (omega arith)) (choose-this _ _ _ (rw o tt) (bind-go f _ (g a l) (give-go s e (ap Some b) refl)))
 
 -- ---- the three fields that are flagged
 
@@ -141,7 +139,7 @@ module _ {s : List ℕ} {p m x : ℕ} (w : Word s p m x) (l : m ≤ 64) (e : ℕ
       by_flags : (z : Bool) → eqb (top 1 x) 0 ≡ z → (y : Bool) → eqb (top (n + 2) x % 2) 0 ≡ y → (if z then 1 else (if y then n + 2 else 2 * n + 3)) ≤ m
           → (z || (y || eqb (top (2 * n + 3) x % 2) 0)) ≡ true → p + (if z then 1 else (if y then n + 2 else 2 * n + 3)) ≤ bit_limit s e
           → flagged (variable_bits n (suc (suc limit))) s e p
-          ≡ got (if z then Absent else Present (if y then top n (after 1 x) else top n (after 1 x) * 2 ^ n + 2 ^ n + top n (after (n + 2) x))) (p + (if z then 1 else (if y then n + 2 else 2 * n + 3)))
+          ≡ got (if z then None else Some (if y then top n (after 1 x) else top n (after 1 x) * 2 ^ n + 2 ^ n + top n (after (n + 2) x))) (p + (if z then 1 else (if y then n + 2 else 2 * n + 3)))
       by_flags true i y j h t k =
           let o : top 1 x ≡ 0 = eqb→eq (top 1 x) 0 (T_of i) in
           bind-go (bits 1) _ (word-bits w e 1 (lit≤ tt) (omega arith) k) (choose-that _ _ _ (rw o tt) (give-go s e refl refl))
@@ -149,7 +147,7 @@ module _ {s : List ℕ} {p m x : ℕ} (w : Word s p m x) (l : m ≤ 64) (e : ℕ
           let o : top 1 x ≡ 1 = flag-set (top 1 x) (flag-range w (omega arith)) i in
           let more : bits_value s (p + 1 + n) 1 ≡ 0 = more-bit n (omega arith) ∙ eqb→eq (top (n + 2) x % 2) 0 (T_of j) in
           let v : bits_value s (p + 1) n ≡ top n (after 1 x) = first-value n (omega arith) in
-          bind-go (bits 1) _ (word-bits w e 1 (lit≤ tt) (omega arith) (omega arith)) (choose-this _ _ _ (rw o tt) (bind-go (variable_bits n (suc (suc limit))) _ (one-group n (suc limit) s e (p + 1) a b more (omega arith) k) (give-go s e (ap Present v) refl)))
+          bind-go (bits 1) _ (word-bits w e 1 (lit≤ tt) (omega arith) (omega arith)) (choose-this _ _ _ (rw o tt) (bind-go (variable_bits n (suc (suc limit))) _ (one-group n (suc limit) s e (p + 1) a b more (omega arith) k) (give-go s e (ap Some v) refl)))
       by_flags false i false j h t k =
           let o : top 1 x ≡ 1 = flag-set (top 1 x) (flag-range w (omega arith)) i in
           let g = rw (← more-bit n (omega arith)) at j in
@@ -189,16 +187,16 @@ span-twice true = refl
 span-twice false = refl
 
 -- the spans by the two bits that decide them, which t has both of
-spans-of : (d b t : ℕ) (o : Optional) → d < 2 → b < 2 → t ≡ d * 2 + b
-    → (let aligned : Optional = if has_aligned d o then Present b else Absent in
+spans-of : (d b t : ℕ) (o : Option ℕ) → d < 2 → b < 2 → t ≡ d * 2 + b
+    → (let aligned : Option ℕ = if has_aligned d o then Some b else None in
     1 + present_span (has_aligned d o) 1 + present_span (is_one aligned) 2 + present_span (has_priority d o aligned) 5 + present_span (has_priority d o aligned) 2)
     ≡ (if eqb d 1 then 1 else (if is_present o then 8 else (if eqb t 0 then 2 else 11)))
 unfolding present_span has_aligned has_priority is_one is_present ◌&◌
-spans-of zero zero t Absent h k e = rw e
-spans-of zero (suc zero) t Absent h k e = rw e
-spans-of zero b t (Present v) h k e = refl
+spans-of zero zero t None h k e = rw e
+spans-of zero (suc zero) t None h k e = rw e
+spans-of zero b t (Some v) h k e = refl
 spans-of (suc zero) b t o h k e = refl
-spans-of zero (suc (suc b)) t Absent h k e = absurd (omega arith)
+spans-of zero (suc (suc b)) t None h k e = absurd (omega arith)
 spans-of (suc (suc d)) b t o h k e = absurd (omega arith)
 
 span-most : (t : Bool) (n : ℕ) → present_span t n ≤ n
@@ -206,11 +204,11 @@ unfolding present_span
 span-most true n = omega arith
 span-most false n = omega arith
 
-module _ {s : List ℕ} {p m x : ℕ} (w : Word s p m x) (l : m ≤ 64) (h : 11 ≤ m) (o : Optional) where
+module _ {s : List ℕ} {p m x : ℕ} (w : Word s p m x) (l : m ≤ 64) (h : 11 ≤ m) (o : Option ℕ) where
   abbrev there : Bool
   there = has_aligned (top 1 x) o
 
-  abbrev aligned : Optional
+  abbrev aligned : Option ℕ
   aligned = present_value there 1 (after 1 x)
 
   abbrev kept : Bool
@@ -258,7 +256,7 @@ module _ {s : List ℕ} {p m x : ℕ} (w : Word s p m x) (l : m ≤ 64) (h : 11 
   past-priority : Word s (q + present_span kept 1 + present_span kept 1 + present_span ranked 5) (m - 1 - present_span there 1 - present_span kept 2 - present_span ranked 5) (after (present_span ranked 5) z)
   past-priority = word_after (present_span ranked 5) (omega arith) (omega (arith, span-most there 1, span-most kept 2, span-most ranked 5)) past-remove
 
-  pub controls-found : (e : ℕ) (duration group : Optional) (codec : ℕ) → p + controls_span (is_present o) x ≤ bit_limit s e
+  pub controls-found : (e : ℕ) (duration group : Option ℕ) (codec : ℕ) → p + controls_span (is_present o) x ≤ bit_limit s e
       → config_controls o duration group codec (top 1 x) s e (p + 1) ≡ got (compact_controls o duration group codec x) (p + controls_span (is_present o) x)
   unfolding config_controls compact_controls
   controls-found e duration group codec k =
@@ -332,9 +330,9 @@ module _ {s : List ℕ} {p m x : ℕ} (w : Word s p m x) (l : m ≤ 64) (h : 52 
   after-codec : Word s (p + a + b + c + d) (m - a - b - c - d) (after_codec x)
   after-codec = word_after d (omega arith) (omega (arith, few)) after-group
 
-  pub config-found : (e : ℕ) → p + config_length x ≤ bit_limit s e → payload_config s e p ≡ got (compact_config x) (p + config_length x)
+  pub found : (e : ℕ) → p + config_length x ≤ bit_limit s e → payload_config s e p ≡ got (compact_config x) (p + config_length x)
   unfolding payload_config compact_config compact_settings config_length
-  config-found e k =
+  found e k =
       let r = controls-range (is_present (flagged_value 11 x)) (after_codec x) in
       let i : config_length x ≡ a + b + c + d + controls_span (is_present (flagged_value 11 x)) (after_codec x) = rw t in
       let j : p + config_length x ≡ p + a + b + c + d + controls_span (is_present (flagged_value 11 x)) (after_codec x) = omega (arith, i) in

@@ -5,11 +5,9 @@ use Prim.Native.Nat.{ℕ, zero, suc, ◌+◌, ◌*◌, ◌/◌, ◌%◌, ◌^◌
 use native.Mathlib.Omega.{arith}
 use lib.Dec.{eqb}
 use borrow.Author.Tests.{ne_eqb, eqb-true, eqb-false}
-use Rattle.std.specs.Prelude.{if◌then◌else◌}
+use Rattle.std.specs.Prelude.{if◌then◌else◌, Option, Some, None}
 use Rattle.emdf_format.specs.Syntax.{groups, count_before}
 use Rattle.emdf_format.specs.Groups.{optional_groups, config_groups}
-use Rattle.emdf_format.specs.declared.Optional.{Optional}
-use Rattle.emdf_format.specs.declared.Optional.TheVariants.{Absent, Present}
 use Rattle.emdf_format.proofs.Groups.{larger-right, larger-most}
 use Rattle.emdf_fields.specs.Word.{top, after}
 use Rattle.emdf_compact.specs.Words.{flagged_value, variable_span, variable_value, flagged_after, after_timing, compact_controls, compact_settings, compact_config, config_length, two_groups, grouped_length, head_length, grouped_head}
@@ -36,7 +34,7 @@ duration-groups : (x : ℕ) → optional_groups 11 (flagged_value 11 x) ≤ 1
 unfolding optional_groups flagged_value
 duration-groups x = by (eqb (top 1 x) 0)
   where
-    by : (t : Bool) → optional_groups 11 (if t then Absent else Present (top 11 (after 1 x))) ≤ 1
+    by : (t : Bool) → optional_groups 11 (if t then None else Some (top 11 (after 1 x))) ≤ 1
     by true = omega arith
     by false = omega (arith, one-group 11 (top 11 (after 1 x)) (omega (arith, top-few 11 (after 1 x) (omega arith) (omega arith))))
 
@@ -57,7 +55,7 @@ module _ (x : ℕ) where
     where
       by : (t u : Bool)
           → let span : ℕ = if t then 1 else (if u then 4 else 7) in
-          let value : Optional = if t then Absent else Present (if u then first else first * 4 + 4 + second) in
+          let value : Option ℕ = if t then None else Some (if u then first else first * 4 + 4 + second) in
           (eqb span 7 ≡ true → optional_groups 2 value ≡ 2) × (eqb span 7 ≡ false → optional_groups 2 value ≤ 1)
       by true u = ((λ h. absurd (let z : ◌≡◌ {A = ℕ} 0 1 = cc in omega arith)), λ h. omega arith)
       by false true = ((λ h. absurd (let z : ◌≡◌ {A = ℕ} 0 1 = cc in omega arith)), λ h. omega (arith, one-group 2 first (omega (arith, few))))

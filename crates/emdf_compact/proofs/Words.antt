@@ -7,9 +7,8 @@ use native.Mathlib.Nat.{suc-mul, mod-eq_of_lt}
 use lib.Dec.{eqb}
 use lib.Pow.{shr_lt, shl_lt, pow_mono, pow-add}
 use borrow.Author.Tests.{eq-eqb}
-use Rattle.std.specs.Prelude.{if◌then◌else◌}
+use Rattle.std.specs.Prelude.{if◌then◌else◌, Some, None}
 use Rattle.emdf_format.specs.Contents.{◌&◌, is_present}
-use Rattle.emdf_format.specs.declared.Optional.TheVariants.{Absent, Present}
 use Rattle.emdf_fields.specs.Word.{top, after}
 use Rattle.emdf_compact.specs.Words.{flagged_span, flagged_value, flagged_ends, variable_span, variable_ends, codec_span, codec_ends, controls_span, compact_settings, config_length, two_groups, grouped_length}
 
@@ -45,7 +44,7 @@ pub offset-there : (x : ℕ) → eqb (flagged_span 11 x) 13 ≡ is_present (flag
 unfolding flagged_span flagged_value is_present
 offset-there x = by (eqb (top 1 x) 0)
   where
-    by : (b : Bool) → eqb (if b then 1 else 13) 13 ≡ is_present (if b then Absent else Present (top 11 (after 1 x)))
+    by : (b : Bool) → eqb (if b then 1 else 13) 13 ≡ is_present (if b then None else Some (top 11 (after 1 x)))
     by true = refl
     by false = refl
 

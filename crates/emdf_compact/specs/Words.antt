@@ -1,10 +1,8 @@
 -- Fields that lie in one word of 64 bits, from its top on. Settings are compact where the duration is one group and the
 -- group id one or two, what is reserved is zero, and at most 41 bits stand before discard: then a word holds them with the id before
 -- them. Assumes nothing.
-use Rattle.std.specs.Prelude.{Bool, ◌||◌, ℕ, ◌+◌, ◌*◌, ◌%◌, ◌^◌, eqb, leb, if◌then◌else◌}
+use Rattle.std.specs.Prelude.{Bool, ◌||◌, ℕ, ◌+◌, ◌*◌, ◌%◌, ◌^◌, eqb, leb, if◌then◌else◌, Option, Some, None}
 use Rattle.emdf_format.specs.Contents.{◌&◌, is_present, is_one, has_aligned, has_priority}
-use Rattle.emdf_format.specs.declared.Optional.{Optional}
-use Rattle.emdf_format.specs.declared.Optional.TheVariants.{Absent, Present}
 use Rattle.emdf_format.specs.declared.EmdfPayloadConfig.{EmdfPayloadConfig}
 use Rattle.emdf_fields.specs.Word.{top, after}
 
@@ -13,8 +11,8 @@ use Rattle.emdf_fields.specs.Word.{top, after}
 unfoldable pub flagged_span : ℕ → ℕ → ℕ
 flagged_span w x = if eqb (top 1 x) 0 then 1 else w + 2
 
-unfoldable pub flagged_value : ℕ → ℕ → Optional
-flagged_value w x = if eqb (top 1 x) 0 then Absent else Present (top w (after 1 x))
+unfoldable pub flagged_value : ℕ → ℕ → Option ℕ
+flagged_value w x = if eqb (top 1 x) 0 then None else Some (top w (after 1 x))
 
 unfoldable pub flagged_ends : ℕ → ℕ → Bool
 flagged_ends w x = eqb (top 1 x) 0 || eqb (top (w + 2) x % 2) 0
@@ -24,11 +22,11 @@ flagged_ends w x = eqb (top 1 x) 0 || eqb (top (w + 2) x % 2) 0
 unfoldable pub variable_span : ℕ → ℕ → ℕ
 variable_span w x = if eqb (top 1 x) 0 then 1 else (if eqb (top (w + 2) x % 2) 0 then w + 2 else 2 * w + 3)
 
-unfoldable pub variable_value : ℕ → ℕ → Optional
+unfoldable pub variable_value : ℕ → ℕ → Option ℕ
 variable_value w x =
     if eqb (top 1 x) 0
-    then Absent
-    else Present (if eqb (top (w + 2) x % 2) 0 then top w (after 1 x) else top w (after 1 x) * 2 ^ w + 2 ^ w + top w (after (w + 2) x))
+    then None
+    else Some (if eqb (top (w + 2) x % 2) 0 then top w (after 1 x) else top w (after 1 x) * 2 ^ w + 2 ^ w + top w (after (w + 2) x))
 
 unfoldable pub variable_ends : ℕ → ℕ → Bool
 variable_ends w x = eqb (top 1 x) 0 || (eqb (top (w + 2) x % 2) 0 || eqb (top (2 * w + 3) x % 2) 0)
@@ -47,19 +45,19 @@ codec_ends x = eqb (top 1 x) 0 || eqb (top 9 x % 2 ^ 8) 0
 unfoldable pub present_span : Bool → ℕ → ℕ
 present_span there w = if there then w else 0
 
-unfoldable pub present_value : Bool → ℕ → ℕ → Optional
-present_value there w x = if there then Present (top w x) else Absent
+unfoldable pub present_value : Bool → ℕ → ℕ → Option ℕ
+present_value there w x = if there then Some (top w x) else None
 
 unfoldable pub controls_span : Bool → ℕ → ℕ
 controls_span offset x =
     if eqb (top 1 x) 1 then 1 else (if offset then 8 else (if eqb (top 2 x) 0 then 2 else 11))
 
 -- those after discard, which is 0 or 1
-unfoldable pub compact_controls : Optional → Optional → Optional → ℕ → ℕ → EmdfPayloadConfig
+unfoldable pub compact_controls : Option ℕ → Option ℕ → Option ℕ → ℕ → ℕ → EmdfPayloadConfig
 compact_controls sample-offset duration group-id codec x =
     let discard : ℕ = top 1 x in
     let there : Bool = has_aligned discard sample-offset in
-    let aligned : Optional = present_value there 1 (after 1 x) in
+    let aligned : Option ℕ = present_value there 1 (after 1 x) in
     let y : ℕ = after (present_span there 1) (after 1 x) in
     let z : ℕ = after (present_span (is_one aligned) 2) y in
     let ranked : Bool = has_priority discard sample-offset aligned in

@@ -4,7 +4,7 @@
 ghost use Rattle.std.specs.Prelude.{◌≡◌, ◌≤◌, if◌then◌else◌};
 ghost use Rattle.emdf_compact.specs.Words.{flagged_span, flagged_value, flagged_ends, variable_span, variable_value, variable_ends, codec_span, codec_ends, present_span, present_value, controls_span, compact_controls, compact_config, config_length, grouped_length, grouped_head, size_length, size_value};
 
-use emdf_format::{EmdfPayloadConfig, Optional};
+use emdf_format::EmdfPayloadConfig;
 
 // A flag and, where it is set, w bits and a bit that is 0: how many bits that is.
 fn flagged_span(x: u64, w: u64) -> u64
@@ -32,14 +32,14 @@ fn flagged_length(x: u64, w: u64) -> u64
 }
 
 // The w bits.
-fn flagged_value(x: u64, w: u64) -> Optional
+fn flagged_value(x: u64, w: u64) -> Option<u64>
     requires { (1 ≤ w) × (w ≤ 11) }
     ensures { result ≡ flagged_value w x }
 {
     if x >> 63 == 0 {
-        return Optional::Absent;
+        return None;
     }
-    Optional::Present((x << 1) >> (64 - w))
+    Some((x << 1) >> (64 - w))
 }
 
 // A flag and, where it is set, a variable field of one group or two, of w bits each: how many bits that is.
@@ -74,19 +74,19 @@ fn variable_length(x: u64, w: u64) -> u64
 }
 
 // Its value: the second group starts past the values of one.
-fn variable_value(x: u64, w: u64) -> Optional
+fn variable_value(x: u64, w: u64) -> Option<u64>
     requires { (1 ≤ w) × (w ≤ 11) }
     ensures { result ≡ variable_value w x }
 {
     if x >> 63 == 0 {
-        return Optional::Absent;
+        return None;
     }
     let first = (x << 1) >> (64 - w);
     if (x >> (62 - w)) % 2 == 0 {
-        return Optional::Present(first);
+        return Some(first);
     }
     let second = (x << (w + 2)) >> (64 - w);
-    Optional::Present(((first + 1) << w) + second)
+    Some(((first + 1) << w) + second)
 }
 
 // The codec data's flag and, where it is set, the reserved octet: how many bits that is, or 64 where the octet is not 0.
@@ -215,14 +215,14 @@ fn present_span(there: bool, w: u64) -> u64
     if there { w } else { 0 }
 }
 
-fn present_value(x: u64, there: bool, w: u64) -> Optional
+fn present_value(x: u64, there: bool, w: u64) -> Option<u64>
     requires { (1 ≤ w) × (w ≤ 64) }
     ensures { result ≡ present_value there w x }
 {
     if !there {
-        return Optional::Absent;
+        return None;
     }
-    Optional::Present(x >> (64 - w))
+    Some(x >> (64 - w))
 }
 
 // Compact settings.
@@ -242,9 +242,9 @@ pub fn compact_config(x: u64) -> EmdfPayloadConfig
 // The settings from discard on, beside those before them.
 fn compact_controls(
     x: u64,
-    offset: Optional,
-    duration: Optional,
-    group: Optional,
+    offset: Option<u64>,
+    duration: Option<u64>,
+    group: Option<u64>,
     codec: u64,
 ) -> EmdfPayloadConfig
     ensures { result ≡ compact_controls offset duration group codec x }

@@ -8,12 +8,11 @@ use lib.ListN.{take, drop}
 use lib.Dec.{leb, eqb}
 use borrow.Author.Tests.{le-leb, lt-leb, eq-eqb, ne_eqb}
 use mathlib.Core.Bool.{Bool, true, false}
-use Rattle.std.specs.Prelude.{if◌then◌else◌}
+use Rattle.std.specs.Prelude.{if◌then◌else◌, MatchResult, Result, Ok, Err}
 use Rattle.openjoc_bitio.specs.Bits.{bits_value}
 use Rattle.openjoc_bitio.specs.Cursor.{bits_remaining, past, read_bits}
 use Rattle.openjoc_bitio.specs.declared.BitError.{BitError}
 use Rattle.openjoc_bitio.specs.declared.BitError.TheVariants.{EndOfInput}
-use Rattle.openjoc_bitio.specs.declared.BitsAnswer.TheVariants as BitsAnswer
 use Rattle.openjoc_bitio.specs.declared.BitCursor.{BitCursor}
 use Rattle.openjoc_bitio.proofs.Bits.{value_none, value-split}
 use Rattle.emdf_format.specs.Calls.{octets_at}
@@ -21,13 +20,10 @@ use Rattle.emdf_format.specs.Contents.{protection_length}
 use Rattle.emdf_format.specs.Reader.{got, refused, ask, cursor_at, remaining, bits, octets}
 use Rattle.emdf_format.specs.Reading.{padding}
 use Rattle.emdf_format.specs.declared.EmdfError.TheVariants.{ExcessPadding, NonzeroPadding}
-use Rattle.emdf_format.proofs.Standing.{bit_limit, remaining-limit, T_of, T-not-of, bind-go, bind-no, give-go, ask-go, ask-refuses, ask-fine}
+use Rattle.emdf_format.proofs.Standing.{bit_limit, remaining-limit, T_of, T-not-of, bind-go, ask-go, ask-refuses, ask-fine}
 use Rattle.emdf_format.proofs.Loops.{bits-there}
-use Rattle.emdf_container.specs.Container.{bytes_number, protection_bytes, bytes_answer, value_there, padding_value}
+use Rattle.emdf_container.specs.Container.{bytes_number, protection_bytes, bytes_answer, value_there}
 use Rattle.emdf_fields.proofs.Octets.{length-octets-at, Passed}
-use Rattle.emdf_fields.specs.Fields.{field_answer}
-use Rattle.emdf_fields.specs.declared.FieldAnswer.TheVariants.{Value, Refused}
-use Rattle.emdf_container.specs.declared.BytesAnswer.TheVariants as BytesAnswer
 
 -- octets, taken after k bits that make v
 octets-number : (s : List ℕ) (p k n : ℕ) → bytes_number (bits_value s p k) (octets_at s (p + k) n) ≡ bits_value s p (k + 8 * n)
@@ -95,28 +91,22 @@ short-is s p n k l =
 
 -- ---- the code's answers
 
-pub value_read : (s : List ℕ) (c : BitCursor) (n : ℕ) {v : ℕ} {d : BitCursor} → n ≤ 64 → read_bits s c n ≡ BitsAnswer.Value v d → v ≡ value_there s c n
+-- the value that a read answers, and 0 where its bits are not there
+pub value_read : (s : List ℕ) (c : BitCursor) (n : ℕ) (r : Result (ℕ × BitCursor) BitError) {v : ℕ} {P : ℕ × BitCursor → Type 0}
+    → n ≤ 64 → r ≡ read_bits s c n → MatchResult r P (λ _. v ≡ 0) → ((x : ℕ × BitCursor) → P x → v ≡ x.0) → v ≡ value_there s c n
 unfolding read_bits value_there
-value_read s c n {v} {d} h k = go (leb n (bits_remaining s c)) (simp (le-leb n 64 h) at k)
+value_read s c n r {v} {P} h i m is = go (leb n (bits_remaining s c)) (rw (simp (le-leb n 64 h) at i) at m)
   where
-    go : (t : Bool) → (if t then BitsAnswer.Value (bits_value s c.position n) (past c n) else BitsAnswer.Refused (EndOfInput n (bits_remaining s c))) ≡ BitsAnswer.Value v d → v ≡ (if t then bits_value s c.position n else 0)
-    go true f = cc
-    go false f = absurd (let z : ◌≡◌ {A = ℕ} 0 1 = cc in omega arith)
+    go : (t : Bool) → MatchResult (if t then Ok (bits_value s c.position n, past c n) else Err (EndOfInput n (bits_remaining s c))) P (λ _. v ≡ 0) → v ≡ (if t then bits_value s c.position n else 0)
+    go true f = is _ f
+    go false f = f
 
-pub value-unread : (s : List ℕ) (c : BitCursor) (n : ℕ) {why : BitError} → n ≤ 64 → read_bits s c n ≡ BitsAnswer.Refused why → 0 ≡ value_there s c n
-unfolding read_bits value_there
-value-unread s c n {why} h k = go (leb n (bits_remaining s c)) (simp (le-leb n 64 h) at k)
-  where
-    go : (t : Bool) → (if t then BitsAnswer.Value (bits_value s c.position n) (past c n) else BitsAnswer.Refused (EndOfInput n (bits_remaining s c))) ≡ BitsAnswer.Refused why → 0 ≡ (if t then bits_value s c.position n else 0)
-    go true f = absurd (let z : ◌≡◌ {A = ℕ} 0 1 = cc in omega arith)
-    go false f = refl
-
-pub protection-long : (c : ℕ) → (c ≡ 0 → ⊥) → (c ≡ 1 → ⊥) → (c ≡ 2 → ⊥) → 16 ≡ protection_length c
+pub protection-long : (c : ℕ) → 3 ≤ c → 16 ≡ protection_length c
 unfolding protection_length
-protection-long zero a b d = absurd (a refl)
-protection-long (suc zero) a b d = absurd (b refl)
-protection-long (suc (suc zero)) a b d = absurd (d refl)
-protection-long (suc (suc (suc c))) a b d = refl
+protection-long zero h = absurd (omega arith)
+protection-long (suc zero) h = absurd (omega arith)
+protection-long (suc (suc zero)) h = absurd (omega arith)
+protection-long (suc (suc (suc c))) h = refl
 
 -- ---- padding
 
@@ -135,23 +125,19 @@ module _ (s : List ℕ) (e p : ℕ) where
   all_there : rest ≤ 7 → bits rest s e p ≡ got (bits_value s p rest) (p + rest)
   all_there h = bits-there rest s e p (omega arith) (omega (arith, remaining-limit s e p))
 
-  pub pad-excess : 7 < rest → Refused (ExcessPadding rest) (cursor_at e p) ≡ field_answer e (padding_value s e p)
-  unfolding padding padding_value field_answer
-  pad-excess h = rw (bind-no padding _ (bind-go remaining _ left (ask-refuses _ _ _ s e p (T-not-of (lt-leb rest 7 h)))))
+  pub pad-excess : 7 < rest → padding s e p ≡ refused (ExcessPadding rest) p
+  unfolding padding
+  pad-excess h = bind-go remaining _ left (ask-refuses _ _ _ s e p (T-not-of (lt-leb rest 7 h)))
 
-  pub pad-nonzero : rest ≤ 7 → (bits_value s p rest ≡ 0 → ⊥) → Refused NonzeroPadding (cursor_at e (p + rest)) ≡ field_answer e (padding_value s e p)
-  unfolding padding padding_value field_answer
+  pub pad-nonzero : rest ≤ 7 → (bits_value s p rest ≡ 0 → ⊥) → padding s e p ≡ refused NonzeroPadding (p + rest)
+  unfolding padding
   pad-nonzero h k =
-      rw (bind-no padding _ (bind-go remaining _ left (ask-go _ _ _ (T_of (le-leb rest 7 h)) (bind-go (bits rest) _ (all_there h) (asked-no (bits_value s p rest) s e (p + rest) k)))))
+      bind-go remaining _ left (ask-go _ _ _ (T_of (le-leb rest 7 h)) (bind-go (bits rest) _ (all_there h) (asked-no (bits_value s p rest) s e (p + rest) k)))
 
   pub padding-there : rest ≤ 7 → bits_value s p rest ≡ 0 → padding s e p ≡ got tt (p + rest)
   unfolding padding
   padding-there h k =
       bind-go remaining _ left (ask-go _ _ _ (T_of (le-leb rest 7 h)) (bind-go (bits rest) _ (all_there h) (ask-fine _ _ s e (T_of (eq-eqb (bits_value s p rest) 0 k)) refl)))
-
-  pub pad-fine : rest ≤ 7 → bits_value s p rest ≡ 0 → Value 0 (cursor_at e (p + rest)) ≡ field_answer e (padding_value s e p)
-  unfolding padding_value field_answer
-  pad-fine h k = rw (bind-go padding _ (padding-there h k) (give-go s e refl refl))
 
 pub rest-value : (s : List ℕ) (c : BitCursor) {n : ℕ} → n ≡ bits_remaining s c → value_there s c n ≡ bits_value s c.position (bits_remaining s c)
 rest-value s c {n} h = rw h (there s c (bits_remaining s c) (le_refl _))
@@ -160,7 +146,7 @@ rest-value s c {n} h = rw h (there s c (bits_remaining s c) (le_refl _))
 
 pub bytes-are : (s : List ℕ) (c : BitCursor) (n : ℕ) {past : BitCursor} {more high low : ℕ} → Passed s c.end c.position n past → more ≡ n - 8
     → high ≡ value_there s c (more * 8) → low ≡ value_there s (cursor_at c.end (c.position + more * 8)) ((n - more) * 8)
-    → BytesAnswer.Bytes (record { length = record { 0 = n }; high = high; low = low }) past ≡ bytes_answer c.end (octets n s c.end c.position)
+    → Ok (record { length = record { 0 = n }; high = high; low = low }, past) ≡ bytes_answer c.end (octets n s c.end c.position)
 unfolding bytes_answer
 bytes-are s c n {past} {more} {high} {low} d m h l =
     let q = c.position + (n - 8) * 8 in

@@ -1,18 +1,16 @@
 -- The answers of a container and its parts, by what the definitions of emdf_format find: e is the end of the cursor that was handed in.
 -- Assumes nothing.
-use Rattle.std.specs.Prelude.{List, [], ◌∷◌, ◌≡◌, ℕ, ◌+◌, ◌-◌, ◌*◌, ◌≤◌, ◌<◌, length, take, drop, leb, if◌then◌else◌}
+use Rattle.std.specs.Prelude.{List, [], ◌∷◌, ◌≡◌, ℕ, ◌+◌, ◌-◌, ◌*◌, ◌≤◌, ◌<◌, length, take, drop, leb, if◌then◌else◌, Result, Ok, Err}
 use Rattle.openjoc_bitio.specs.Bits.{bits_value}
 use Rattle.openjoc_bitio.specs.Cursor.{bits_remaining}
 use Rattle.openjoc_bitio.specs.declared.BitCursor.{BitCursor}
-use Rattle.emdf_format.specs.Reader.{Read, got, refused, Reader, ◌>>=◌, give, cursor_at, remaining}
-use Rattle.emdf_format.specs.Reading.{Found, payloads, padding, Container, container_end, payloads_of, contents_of}
+use Rattle.emdf_format.specs.Reader.{Read, got, refused, Reader, ◌>>=◌, cursor_at, remaining}
+use Rattle.emdf_format.specs.Reading.{Found, payloads, Container, container_end, payloads_of, contents_of}
 use Rattle.emdf_format.specs.Syntax.{extended_groups}
 use Rattle.emdf_format.specs.Groups.{larger, payloads_groups, largest_groups_of}
 use Rattle.emdf_format.specs.declared.EmdfError.{EmdfError}
 use Rattle.emdf_container.specs.declared.ProtectionBytes.{ProtectionBytes}
-use Rattle.emdf_container.specs.declared.BytesAnswer.{BytesAnswer}
 use Rattle.emdf_container.specs.declared.EmdfContainer.{EmdfContainer}
-use Rattle.emdf_container.specs.declared.ContainerAnswer.{ContainerAnswer}
 
 -- ---- protection and padding
 
@@ -29,19 +27,17 @@ protection_bytes bs = record {
   low = bytes_number 0 (drop (length bs - 8) bs);
 }
 
-unfoldable pub bytes_answer : ℕ → Read (List ℕ) → BytesAnswer
-bytes_answer e (got bs q) = BytesAnswer.Bytes (protection_bytes bs) (cursor_at e q)
-bytes_answer e (refused why q) = BytesAnswer.Refused why
+unfoldable pub bytes_answer : ℕ → Read (List ℕ) → Result (ProtectionBytes × BitCursor) EmdfError
+bytes_answer e (got bs q) = Ok (protection_bytes bs, cursor_at e q)
+bytes_answer e (refused why q) = Err why
 
 -- the value of n bits, where they are there
 unfoldable pub value_there : List ℕ → BitCursor → ℕ → ℕ
 value_there s c n = if leb n (bits_remaining s c) then bits_value s c.position n else 0
 
--- padding as a field, whose value is 0
-unfoldable pub padding_value : Reader ℕ
-padding_value = do
-  _ ← padding
-  give 0
+unfoldable pub padding_answer : Read (Unit {0}) → Result (Unit {0}) EmdfError
+padding_answer (got u q) = Ok u
+padding_answer (refused why q) = Err why
 
 -- ---- the container
 
@@ -71,12 +67,6 @@ container_after key = do
   xs ← payloads n
   container_end key xs
 
-unfoldable pub container_answer : ℕ → Read Container → ContainerAnswer
-container_answer e (got c q) = ContainerAnswer.Container (container_of c)
-container_answer e (refused why q) = ContainerAnswer.Refused why
-
--- ---- r is why an answer is refused; of an accepted one nothing is said
-
-abbrev pub bytes_error : BytesAnswer → EmdfError → EmdfError
-bytes_error (BytesAnswer.Bytes b c) r = r
-bytes_error (BytesAnswer.Refused why) r = why
+unfoldable pub container_answer : ℕ → Read Container → Result EmdfContainer EmdfError
+container_answer e (got c q) = Ok (container_of c)
+container_answer e (refused why q) = Err why

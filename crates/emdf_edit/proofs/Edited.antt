@@ -5,10 +5,10 @@ use Prim.Native.Nat.{ℕ, ◌+◌, ◌-◌, ◌*◌, ◌^◌, ◌<◌, ◌≤◌
 use native.Mathlib.Omega.{arith}
 use lib.ListN.{length, take, drop}
 use lib.Seq.{sets}
+use Rattle.std.specs.Prelude.{Result, Ok, Err}
+use Rattle.openjoc_bitio.specs.declared.ByteCount.{ByteCount}
 use Rattle.openjoc_bitio.specs.Bits.{number_bits}
 use Rattle.emdf_format.specs.declared.EditError.{EditError}
-use Rattle.emdf_format.specs.declared.EditAnswer.{EditAnswer}
-use Rattle.emdf_format.specs.declared.EditAnswer.TheVariants.{Written, Refused}
 use Rattle.emdf_format.specs.Syntax.{◌⨟◌, octet_bits}
 use Rattle.emdf_format.specs.Contents.{carrier}
 use Rattle.emdf_format.specs.Edits.{Bytes, carrier_length, step_answer, written, edited, Called}
@@ -16,7 +16,6 @@ use Rattle.emdf_format.proofs.Splice.{⨟-assoc}
 use Rattle.emdf_writer.specs.Writing.{bit_run}
 use Rattle.emdf_writer.proofs.Run.{length_run}
 use Rattle.emdf_plan.specs.declared.Cut.{Cut}
-use Rattle.emdf_plan.specs.declared.Plan.TheVariants as Plan
 use Rattle.emdf_request.specs.Requests.{edit_of, new_bits}
 use Rattle.emdf_plan.specs.Plan.{plan_of, spliced}
 use Rattle.emdf_field_writer.specs.Fields.{sync_bits}
@@ -68,10 +67,10 @@ module _ {s : List ℕ} {cut : Cut} {new : List ℕ} (w : Within s cut new) wher
 -- ---- the calls
 
 module _ (q : Request) (a b src dst : List ℕ) where
-  abbrev Answers : EditAnswer → List ℕ → Type 0
+  abbrev Answers : Result ByteCount EditError → List ℕ → Type 0
   Answers = Called (edit_of q a b) src dst
 
-  pub refused : {why : EditError} → plan_of q a b src (length dst) ≡ Plan.Refused why → Answers (Refused why) dst
+  pub refused : {why : EditError} → plan_of q a b src (length dst) ≡ Err why → Answers (Err why) dst
   unfolding edited step_answer written
   refused {why} h = rw (plan-refused q a b src (length dst) why h) (refl, refl)
 
@@ -94,7 +93,7 @@ module _ (q : Request) (a b src dst : List ℕ) where
 
     -- front is what stands in the first bytes after their bits are put
     pub spliced-answer : {n : ℕ} (front : List ℕ) → n ≡ 4 + cut.size.0 → Bytes dst → Bytes (front ++ drop n dst)
-        → octet_bits front ≡ sets (octet_bits (take n dst)) 0 (spliced src cut (new_bits q a b)) → Answers (Written (record { 0 = n })) (front ++ drop n dst)
+        → octet_bits front ≡ sets (octet_bits (take n dst)) 0 (spliced src cut (new_bits q a b)) → Answers (Ok (record { 0 = n })) (front ++ drop n dst)
     unfolding edited step_answer written
     spliced-answer {n} front z f g h =
         let l : n ≡ carrier_length p.contents = omega (arith, z, p.size) in

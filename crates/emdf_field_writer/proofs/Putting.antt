@@ -60,12 +60,9 @@ then-put out mid end xs ys at {p} {q} a b =
 pub none-put : (out : List ℕ) (at : ℕ) → Put out at [] out at
 none-put out at = (omega arith, refl)
 
--- zero bits, of which left were still to come, and then w of these
-pub zeros-put : (out mid end : List ℕ) (at n left w : ℕ) {p q : ℕ} → left ≤ n → w ≤ left → Put out at (number_bits (n - left) 0) mid p
-    → Put mid p (number_bits w 0) end q → Put out at (number_bits (n - (left - w)) 0) end q
-zeros-put out mid end at n left w h k a b =
-    let z : n - (left - w) ≡ n - left + w = omega arith in
-    rw (z, ← zeros-append (n - left) w) (then-put out mid end _ _ at a b)
+-- zero bits and then others
+pub zeros-put : (out mid end : List ℕ) (at n w : ℕ) {p q : ℕ} → Put out at (number_bits n 0) mid p → Put mid p (number_bits w 0) end q → Put out at (number_bits (n + w) 0) end q
+zeros-put out mid end at n w a b = rw (← zeros-append n w) (then-put out mid end _ _ at a b)
 
 -- ---- groups
 

@@ -8,7 +8,7 @@ ghost use Rattle.emdf_format.specs.Contents.{Payload, sample_offset_bits, codec_
 ghost use Rattle.emdf_writer.specs.Writing.{bit_run};
 ghost use Rattle.emdf_field_writer.specs.Fields.{Room, Put, group, variable_groups, timing_bits, controls_bits, sync_bits, header_bits};
 
-use emdf_format::{EmdfPayloadConfig, Optional};
+use emdf_format::EmdfPayloadConfig;
 use openjoc_bitio::{BitOffset, ByteCount};
 
 // The width low bits of v; the position past them, as with the others.
@@ -26,12 +26,10 @@ pub fn put_zeros(out: &mut [u8], at: BitOffset, n: usize) -> BitOffset
     ensures { Put out.old at.0 (number_bits n 0) out.new result.0 }
 {
     let mut next = at;
-    let mut left = n;
-    while 64 < left {
+    for _ in 0..n / 64 {
         next = put_field(out, next, 64, 0);
-        left -= 64;
     }
-    put_field(out, next, left, 0)
+    put_field(out, next, n % 64, 0)
 }
 
 // A group: the width low bits of v and the more bit.
@@ -39,7 +37,7 @@ fn put_group(out: &mut [u8], at: BitOffset, width: usize, v: u64, more: u64) -> 
     requires { (width < 64) × (more < 2) × Room out.old at.0 (group width v more) }
     ensures { Put out.old at.0 (group width v more) out.new result.0 }
 {
-    let low = v % openjoc_bitio::pow2(width);
+    let low = v % (1 << width);
     put_field(out, at, width + 1, low * 2 + more)
 }
 
@@ -61,7 +59,7 @@ pub fn put_extended(out: &mut [u8], at: BitOffset, width: usize, v: u64) -> BitO
     requires { (0 < width) × (width < 64) × Room out.old at.0 (extended_field width v) }
     ensures { Put out.old at.0 (extended_field width v) out.new result.0 }
 {
-    let escape = openjoc_bitio::pow2(width) - 1;
+    let escape = (1 << width) - 1;
     if v < escape {
         return put_field(out, at, width, v);
     }
@@ -80,13 +78,13 @@ fn put_octets(out: &mut [u8], at: BitOffset, s: &[u8]) -> BitOffset
 }
 
 // The sample offset: a flag and, where it is there, 11 bits and a reserved one.
-fn put_sample_offset(out: &mut [u8], at: BitOffset, o: Optional) -> BitOffset
+fn put_sample_offset(out: &mut [u8], at: BitOffset, o: Option<u64>) -> BitOffset
     requires { Room out.old at.0 (flagged_field sample_offset_bits o) }
     ensures { Put out.old at.0 (flagged_field sample_offset_bits o) out.new result.0 }
 {
     match o {
-        Optional::Absent => put_field(out, at, 1, 0),
-        Optional::Present(v) => {
+        None => put_field(out, at, 1, 0),
+        Some(v) => {
             let flag = put_field(out, at, 1, 1);
             let value = put_field(out, flag, 11, v);
             put_field(out, value, 1, 0)
@@ -95,13 +93,13 @@ fn put_sample_offset(out: &mut [u8], at: BitOffset, o: Optional) -> BitOffset
 }
 
 // A flag and, where the setting is there, its variable field.
-fn put_flagged(out: &mut [u8], at: BitOffset, width: usize, o: Optional) -> BitOffset
+fn put_flagged(out: &mut [u8], at: BitOffset, width: usize, o: Option<u64>) -> BitOffset
     requires { (0 < width) × (width < 64) × Room out.old at.0 (flagged_field (variable_field width) o) }
     ensures { Put out.old at.0 (flagged_field (variable_field width) o) out.new result.0 }
 {
     match o {
-        Optional::Absent => put_field(out, at, 1, 0),
-        Optional::Present(v) => {
+        None => put_field(out, at, 1, 0),
+        Some(v) => {
             let flag = put_field(out, at, 1, 1);
             put_variable(out, flag, width, v, 0)
         }
@@ -121,13 +119,13 @@ fn put_codec_data(out: &mut [u8], at: BitOffset, flag: u64) -> BitOffset
 }
 
 // The width low bits of a setting, where it is there.
-fn put_present(out: &mut [u8], at: BitOffset, width: usize, o: Optional) -> BitOffset
+fn put_present(out: &mut [u8], at: BitOffset, width: usize, o: Option<u64>) -> BitOffset
     requires { (width ≤ 64) × Room out.old at.0 (present_field (number_bits width) o) }
     ensures { Put out.old at.0 (present_field (number_bits width) o) out.new result.0 }
 {
     match o {
-        Optional::Absent => at,
-        Optional::Present(v) => put_field(out, at, width, v),
+        None => at,
+        Some(v) => put_field(out, at, width, v),
     }
 }
 
@@ -136,12 +134,9 @@ fn put_timing(out: &mut [u8], at: BitOffset, t: EmdfPayloadConfig) -> BitOffset
     requires { Room out.old at.0 (timing_bits t) }
     ensures { Put out.old at.0 (timing_bits t) out.new result.0 }
 {
-    let offset = t.sample_offset;
-    let duration = t.duration;
-    let group = t.group_id;
-    let first = put_sample_offset(out, at, offset);
-    let second = put_flagged(out, first, 11, duration);
-    put_flagged(out, second, 2, group)
+    let first = put_sample_offset(out, at, t.sample_offset);
+    let second = put_flagged(out, first, 11, t.duration);
+    put_flagged(out, second, 2, t.group_id)
 }
 
 // The settings after the codec flag.
@@ -149,17 +144,12 @@ fn put_controls(out: &mut [u8], at: BitOffset, t: EmdfPayloadConfig) -> BitOffse
     requires { Room out.old at.0 (controls_bits t) }
     ensures { Put out.old at.0 (controls_bits t) out.new result.0 }
 {
-    let aligned = t.payload_frame_aligned;
-    let create = t.create_duplicate;
-    let remove = t.remove_duplicate;
-    let priority = t.priority;
-    let processing = t.processing_allowed;
     let first = put_field(out, at, 1, t.discard_unknown_payload);
-    let second = put_present(out, first, 1, aligned);
-    let third = put_present(out, second, 1, create);
-    let fourth = put_present(out, third, 1, remove);
-    let fifth = put_present(out, fourth, 5, priority);
-    put_present(out, fifth, 2, processing)
+    let second = put_present(out, first, 1, t.payload_frame_aligned);
+    let third = put_present(out, second, 1, t.create_duplicate);
+    let fourth = put_present(out, third, 1, t.remove_duplicate);
+    let fifth = put_present(out, fourth, 5, t.priority);
+    put_present(out, fifth, 2, t.processing_allowed)
 }
 
 // The ten settings.
@@ -227,7 +217,7 @@ pub fn put_sync(out: &mut [u8], size: ByteCount) -> BitOffset
     requires { Room out.old 0 (sync_bits size.0) }
     ensures { Put out.old 0 (sync_bits size.0) out.new result.0 }
 {
-    emdf_writer::put_u16(out, 0, emdf_format::SYNCWORD as u64);
+    emdf_writer::put_u16(out, 0, u64::from(emdf_format::SYNCWORD));
     emdf_writer::put_u16(out, 2, size.0 as u64);
     BitOffset(32)
 }

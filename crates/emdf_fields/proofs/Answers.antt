@@ -10,16 +10,15 @@ use lib.ListN.{length}
 use lib.Dec.{T}
 use Rattle.openjoc_bitio.specs.declared.BitCursor.{BitCursor}
 use Rattle.emdf_format.specs.Syntax.{groups}
-use Rattle.emdf_format.specs.Reader.{Read, got, refused, Reader, ◌>>=◌, give, ask, choose, cursor_at, position, variable_bits}
+use Rattle.emdf_format.specs.Reader.{Read, got, refused, Reader, ◌>>=◌, give, ask, choose, position, variable_bits}
 use Rattle.emdf_format.specs.declared.EmdfError.{EmdfError}
 use Rattle.emdf_format.proofs.Payloads.{at-go}
 use Rattle.emdf_format.proofs.Standing.{bind-go, bind-no, ask-go, ask-refuses, choose-this, choose-that, bind_assoc, choose-bind, give-bind}
 use Rattle.emdf_format.proofs.Groups.{field-groups}
-use Rattle.emdf_fields.specs.Fields.{field_answer, variable_answer, count_answer, field_error, count_error}
-use Rattle.emdf_fields.specs.declared.FieldAnswer.{FieldAnswer}
-use Rattle.emdf_fields.specs.declared.FieldAnswer.TheVariants.{Value, Refused}
-use Rattle.emdf_fields.specs.declared.VariableAnswer.TheVariants as VariableAnswer
-use Rattle.emdf_fields.specs.declared.CountAnswer.{CountAnswer}
+use Rattle.emdf_fields.specs.Fields.{field_answer, variable_answer, answer, count_answer}
+use Rattle.emdf_fields.specs.declared.FieldError.{FieldError}
+use Rattle.openjoc_bitio.proofs.Results.{both-same, err-same, ok-is-not-err, err-is-not-ok}
+use Rattle.std.specs.Prelude.{Result, Ok, Err}
 
 -- ---- what an answer says of the reading
 
@@ -32,32 +31,41 @@ pub record Ended {A : Type 0} (x : Read A) (e : ℕ) (why : EmdfError) (c : BitC
   pub is : x ≡ refused why c.position
   pub end : c.end ≡ e
 
-pub field_found : {e : ℕ} (x : Read ℕ) {v : ℕ} {c : BitCursor} → field_answer e x ≡ Value v c → Found x e v c
-unfolding field_answer
-field_found {e} (got w q) {v} {c} h =
-    let a : w ≡ v = cc in
-    let b : cursor_at e q ≡ c = cc in
-    record { is = rw (a, ← b); end = rw (← b) }
-field_found (refused why q) h = absurd (let z : ◌≡◌ {A = ℕ} 0 1 = cc in omega arith)
+module _ {A : Type 0} {e : ℕ} where
+  pub field_found : (x : Read A) {v : A} {c : BitCursor} → field_answer e x ≡ Ok (v, c) → Found x e v c
+  unfolding field_answer
+  field_found (got w q) {v} {c} h =
+      let p = both-same h in
+      record { is = rw (← p.1, p.0); end = rw (← p.1) }
+  field_found (refused why q) h = absurd (err-is-not-ok h)
 
-pub field-ended : {e : ℕ} (x : Read ℕ) {why : EmdfError} {c : BitCursor} → field_answer e x ≡ Refused why c → Ended x e why c
-unfolding field_answer
-field-ended (got w q) h = absurd (let z : ◌≡◌ {A = ℕ} 0 1 = cc in omega arith)
-field-ended {e} (refused why' q) {why} {c} h =
-    let a : why' ≡ why = cc in
-    let b : cursor_at e q ≡ c = cc in
-    record { is = rw (a, ← b); end = rw (← b) }
+  pub field-ended : (x : Read A) {f : FieldError} → field_answer e x ≡ Err f → Ended x e f.why f.cursor
+  unfolding field_answer
+  field-ended (got w q) h = absurd (ok-is-not-err h)
+  field-ended (refused why q) h = let p = err-same h in record { is = rw (← p); end = rw (← p) }
+
+  pub found : (x : Read A) {v : A} {c : BitCursor} → answer e x ≡ Ok (v, c) → Found x e v c
+  unfolding answer
+  found (got w q) {v} {c} h =
+      let p = both-same h in
+      record { is = rw (← p.1, p.0); end = rw (← p.1) }
+  found (refused why q) h = absurd (err-is-not-ok h)
+
+pub ended : {A : Type 0} (e : ℕ) (x : Read A) {why : EmdfError} → answer e x ≡ Err why → (q : ℕ) × (x ≡ refused why q)
+unfolding answer
+ended e (got w q) h = absurd (ok-is-not-err h)
+ended e (refused why' q) h = (q, rw (err-same h))
 
 -- a variable field that is found takes so many bits, and one that is refused is refused
-pub variable-found : (w lim : ℕ) (s : List ℕ) (c : BitCursor) {v : ℕ} {next : BitCursor} → field_answer c.end (variable_bits w lim s c.end c.position) ≡ Value v next
-    → (next.position ≡ c.position + (w + 1) * groups w v) × (VariableAnswer.Value v (groups w v) next ≡ variable_answer w c.end (variable_bits w lim s c.end c.position))
+pub variable-found : (w lim : ℕ) (s : List ℕ) (c : BitCursor) {v : ℕ} {next : BitCursor} → field_answer c.end (variable_bits w lim s c.end c.position) ≡ Ok (v, next)
+    → (next.position ≡ c.position + (w + 1) * groups w v) × (Ok (v, groups w v, next) ≡ variable_answer w c.end (variable_bits w lim s c.end c.position))
 unfolding variable_answer
 variable-found w lim s c {v} {next} h =
     let d = field_found (variable_bits w lim s c.end c.position) h in
     (field-groups w lim s c.end c.position d.is, rw (d.is, ← d.end))
 
-pub variable-ended : (w lim : ℕ) (s : List ℕ) (c : BitCursor) {why : EmdfError} {next : BitCursor} → field_answer c.end (variable_bits w lim s c.end c.position) ≡ Refused why next
-    → VariableAnswer.Refused why next ≡ variable_answer w c.end (variable_bits w lim s c.end c.position)
+pub variable-ended : (w lim : ℕ) (s : List ℕ) (c : BitCursor) {f : FieldError} → field_answer c.end (variable_bits w lim s c.end c.position) ≡ Err f
+    → variable_answer w c.end (variable_bits w lim s c.end c.position) ≡ Err f
 unfolding variable_answer
 variable-ended w lim s c h = let d = field-ended (variable_bits w lim s c.end c.position) h in rw (d.is, ← d.end)
 
@@ -65,18 +73,17 @@ variable-ended w lim s c h = let d = field-ended (variable_bits w lim s c.end c.
 pub groups-over : (p q k g : ℕ) → 0 < k → q ≡ p + k * g → (q - p) / k ≡ g
 groups-over p q k g h e = let z : q - p ≡ k * g = omega (arith, e) in rw z (mul-div_cancel_left g h)
 
-pub count-found : {A : Type 0} (e : ℕ) (x : Read (List A)) {n : ℕ} {c : BitCursor} → count_answer e x ≡ CountAnswer.Counted n c → (xs : List A) × (length xs ≡ n) × Found x e xs c
+pub count-found : {A : Type 0} (e : ℕ) (x : Read (List A)) {n : ℕ} {c : BitCursor} → count_answer e x ≡ Ok (n, c) → (xs : List A) × (length xs ≡ n) × Found x e xs c
 unfolding count_answer
 count-found e (got xs q) {n} {c} h =
-    let a : length xs ≡ n = cc in
-    let b : cursor_at e q ≡ c = cc in
-    (xs, a, record { is = rw (← b); end = rw (← b) })
-count-found e (refused why q) h = absurd (let z : ◌≡◌ {A = ℕ} 0 1 = cc in omega arith)
+    let p = both-same h in
+    (xs, p.0, record { is = rw (← p.1); end = rw (← p.1) })
+count-found e (refused why q) h = absurd (err-is-not-ok h)
 
-pub count-ended : {A : Type 0} (e : ℕ) (x : Read (List A)) {why : EmdfError} → count_answer e x ≡ CountAnswer.Refused why → (q : ℕ) × (x ≡ refused why q)
+pub count-ended : {A : Type 0} (e : ℕ) (x : Read (List A)) {why : EmdfError} → count_answer e x ≡ Err why → (q : ℕ) × (x ≡ refused why q)
 unfolding count_answer
-count-ended e (got xs q) h = absurd (let z : ◌≡◌ {A = ℕ} 0 1 = cc in omega arith)
-count-ended e (refused why' q) {why} h = let a : why' ≡ why = cc in (q, rw a)
+count-ended e (got xs q) h = absurd (ok-is-not-err h)
+count-ended e (refused why' q) h = (q, rw (err-same h))
 
 -- a test that the code asks the other way round
 pub not-not : (t : Bool) → not t ≡ false → T t
@@ -128,26 +135,36 @@ module _ {B Z : Type 0} {r : Z} (g : ℕ → Read B → Z) where
 
 -- ---- the refusal of a field is the answer
 
--- the same answer is returned
-pub field-ends : (m : Reader ℕ) (k : ℕ → Reader ℕ) (s : List ℕ) (e p : ℕ) {a : FieldAnswer} {why : EmdfError} {c : BitCursor}
-    → a ≡ field_answer e (m s e p) → a ≡ Refused why c → a ≡ field_answer e ((m >>= k) s e p)
-unfolding field_answer
-field-ends m k s e p {a} {why} {c} h t =
-    let d = field-ended (m s e p) (sym h ∙ t) in
-    ends field_answer m k s e p d.is (t ∙ rw (← d.end))
+module _ {A B : Type 0} (m : Reader A) (k : A → Reader B) (s : List ℕ) (e p : ℕ) where
+  -- as it is
+  pub field-ends : {a : Result (A × BitCursor) FieldError} {r : Result (B × BitCursor) FieldError} {f : FieldError}
+      → a ≡ field_answer e (m s e p) → a ≡ Err f → r ≡ Err f → r ≡ field_answer e ((m >>= k) s e p)
+  unfolding field_answer
+  field-ends h t z =
+      let d = field-ended (m s e p) (sym h ∙ t) in
+      ends field_answer m k s e p d.is (z ∙ rw (← d.end))
 
--- the answer h that g gives a refusal, wherever it stands
-module _ {B Z : Type 0} (g : ℕ → Read B → Z) (h : EmdfError → Z) (refuses : (e q : ℕ) (why : EmdfError) → h why ≡ g e (refused why q)) where
-  pub by_field : (m : Reader ℕ) (k : ℕ → Reader B) (s : List ℕ) (e p : ℕ) {a : FieldAnswer} {why x : EmdfError} {c : BitCursor}
-      → a ≡ field_answer e (m s e p) → a ≡ Refused why c → x ≡ field_error a x → h x ≡ g e ((m >>= k) s e p)
-  by_field m k s e p {a} {why} {x} {c} i t z =
+-- the answer that g gives a refusal, wherever it stands
+module _ {A B Z : Type 0} (g : ℕ → Read B → Result Z EmdfError) (refuses : (e q : ℕ) (why : EmdfError) → Err why ≡ g e (refused why q)) (m : Reader A) (k : A → Reader B) (s : List ℕ) (e p : ℕ) where
+  pub by_field : {a : Result (A × BitCursor) FieldError} {r : Result Z EmdfError} {f : FieldError}
+      → a ≡ field_answer e (m s e p) → a ≡ Err f → r ≡ Err f.why → r ≡ g e ((m >>= k) s e p)
+  by_field {f = f} i t z =
       let d = field-ended (m s e p) (sym i ∙ t) in
-      let y : x ≡ why = rw t at z in
-      ends g m k s e p d.is (ap h y ∙ refuses e c.position why)
+      ends g m k s e p d.is (z ∙ refuses e f.cursor.position f.why)
 
-  pub by_count : {A : Type 0} (m : Reader (List A)) (k : List A → Reader B) (s : List ℕ) (e p : ℕ) {a : CountAnswer} {why x : EmdfError}
-      → a ≡ count_answer e (m s e p) → a ≡ CountAnswer.Refused why → x ≡ count_error a x → h x ≡ g e ((m >>= k) s e p)
-  by_count m k s e p {a} {why} {x} i t z =
+  pub by_answer : {a : Result (A × BitCursor) EmdfError} {r : Result Z EmdfError} {why : EmdfError}
+      → a ≡ answer e (m s e p) → a ≡ Err why → r ≡ Err why → r ≡ g e ((m >>= k) s e p)
+  by_answer {why = why} i t z =
+      let d = ended e (m s e p) (sym i ∙ t) in
+      ends g m k s e p d.1 (z ∙ refuses e d.0 why)
+
+module _ {A B Z : Type 0} (g : ℕ → Read B → Result Z EmdfError) (refuses : (e q : ℕ) (why : EmdfError) → Err why ≡ g e (refused why q)) (m : Reader (List A)) (k : List A → Reader B) (s : List ℕ) (e p : ℕ) where
+  pub by_count : {a : Result (ℕ × BitCursor) EmdfError} {r : Result Z EmdfError} {why : EmdfError}
+      → a ≡ count_answer e (m s e p) → a ≡ Err why → r ≡ Err why → r ≡ g e ((m >>= k) s e p)
+  by_count {why = why} i t z =
       let d = count-ended e (m s e p) (sym i ∙ t) in
-      let y : x ≡ why = rw t at z in
-      ends g m k s e p d.1 (ap h y ∙ refuses e d.0 why)
+      ends g m k s e p d.1 (z ∙ refuses e d.0 why)
+
+pub answer-refuses : {A : Type 0} (e q : ℕ) (why : EmdfError) → Err why ≡ answer {A = A} e (refused why q)
+unfolding answer
+answer-refuses e q why = refl

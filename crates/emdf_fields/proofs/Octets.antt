@@ -13,7 +13,9 @@ use Rattle.emdf_format.specs.declared.EmdfError.TheVariants.{Bit}
 use Rattle.emdf_format.proofs.Standing.{bit_limit}
 use Rattle.emdf_format.proofs.Loops.{octets-there, octets-short}
 use Rattle.emdf_fields.specs.Fields.{count_answer}
-use Rattle.emdf_fields.specs.declared.CountAnswer.TheVariants as CountAnswer
+use Rattle.emdf_format.specs.declared.EmdfError.{EmdfError}
+use Rattle.openjoc_bitio.proofs.Results.{both-same, err-is-not-ok}
+use Rattle.std.specs.Prelude.{Result, Ok, Err}
 
 pub length-octets-at : (s : List ℕ) (p n : ℕ) → length (octets_at s p n) ≡ n
 unfolding octets_at
@@ -26,19 +28,19 @@ pub record Passed (s : List ℕ) (e p n : ℕ) (c : BitCursor) : Type 0 where
   pub is : octets n s e p ≡ got (octets_at s p n) c.position
   pub end : c.end ≡ e
 
-pub passed : (s : List ℕ) (e p n : ℕ) {k : ℕ} {c : BitCursor} → count_answer e (octets n s e p) ≡ CountAnswer.Counted k c → Passed s e p n c
+pub passed : (s : List ℕ) (e p n : ℕ) {k : ℕ} {c : BitCursor} → count_answer e (octets n s e p) ≡ Ok (k, c) → Passed s e p n c
 unfolding count_answer
 passed s e p n {k} {c} h = elim (dec_le (8 * n) (bit_limit s e - p)) [ yes l ↦ fine l | no l ↦ short (omega arith) ]
   where
     fine : 8 * n ≤ bit_limit s e - p → Passed s e p n c
     fine l =
         let o = octets-there n s e p l in
-        let f : CountAnswer.Counted (length (octets_at s p n)) (cursor_at e (p + 8 * n)) ≡ CountAnswer.Counted k c = rw o at h in
-        let b : cursor_at e (p + 8 * n) ≡ c = cc in
+        let f : ◌≡◌ {A = Result (ℕ × BitCursor) EmdfError} (Ok (length (octets_at s p n), cursor_at e (p + 8 * n))) (Ok (k, c)) = rw o at h in
+        let b = (both-same f).1 in
         record { room = l; is = rw (← b) o; end = rw (← b) }
 
     short : bit_limit s e - p < 8 * n → Passed s e p n c
     short l =
         let o = octets-short n s e p l in
-        let f : CountAnswer.Refused (Bit (EndOfInput 8 ((bit_limit s e - p) % 8))) ≡ CountAnswer.Counted k c = rw o at h in
-        absurd (let z : ◌≡◌ {A = ℕ} 0 1 = cc in omega arith)
+        let f : ◌≡◌ {A = Result (ℕ × BitCursor) EmdfError} (Err (Bit (EndOfInput 8 ((bit_limit s e - p) % 8)))) (Ok (k, c)) = rw o at h in
+        absurd (err-is-not-ok f)

@@ -13,55 +13,47 @@ use Rattle.std.specs.Prelude.{if◌then◌else◌}
 use Rattle.openjoc_bitio.specs.Bits.{window_at}
 use Rattle.openjoc_bitio.specs.Cursor.{bits_remaining}
 use Rattle.openjoc_bitio.specs.declared.BitCursor.{BitCursor}
-use Rattle.emdf_format.specs.Reader.{Read, got, refused, Reader, and_then, ◌>>=◌, give, ask, choose, bits, groups_from, cursor_at}
-use Rattle.emdf_format.specs.declared.EmdfError.{EmdfError}
+use Rattle.emdf_format.specs.Reader.{Reader, and_then, ◌>>=◌, give, ask, choose, bits, groups_from, cursor_at}
 use Rattle.emdf_format.specs.declared.EmdfError.TheVariants.{VariableBitsGroupLimit, ValueOverflow}
 use Rattle.emdf_format.proofs.Standing.{bit_limit, remaining-limit, T_of, T-not-of, taken, asked, chosen, bind_inv, ask-inv, choose-inv, give-inv, bind-go, bind-no, bind_assoc, bind-same, choose-bind, choose-same, give-bind}
 use Rattle.emdf_format.proofs.Loops.{bits-there}
 use Rattle.emdf_fields.proofs.Word.{word-window, word_low, word-bits}
-use Rattle.emdf_fields.specs.Fields.{Group, last, more, one_group, group_of, group_rest, field_answer, group_answer, group_found, refused_group, start_answer}
-use Rattle.emdf_fields.specs.declared.FieldAnswer.{FieldAnswer}
-use Rattle.emdf_fields.specs.declared.GroupAnswer.{GroupAnswer}
-use Rattle.emdf_fields.specs.declared.StartAnswer.TheVariants.{Start, TooLarge}
-use Rattle.emdf_fields.proofs.Answers.{Found, Ended, field-ended, ends, via, yes as granted, no_more}
-
--- a read that is refused ends the group
-pub group-ends : {r : GroupAnswer} (m : Reader ℕ) (k : ℕ → Reader Group) (s : List ℕ) (e p : ℕ) {a : FieldAnswer} {why : EmdfError} {c : BitCursor}
-    → a ≡ field_answer e (m s e p) → a ≡ FieldAnswer.Refused why c → r ≡ refused_group a r → r ≡ group_answer e ((m >>= k) s e p)
-unfolding group_answer
-group-ends m k s e p h t z =
-    let d = field-ended (m s e p) (sym h ∙ t) in
-    ends group_answer m k s e p d.is (z ∙ rw t (rw (← d.end)))
+use Rattle.emdf_fields.specs.Fields.{one_group, group_of, group_rest, field_answer, start_answer}
+use Rattle.emdf_fields.specs.declared.FieldError.{FieldError}
+use Rattle.emdf_fields.specs.declared.GroupRead.{GroupRead}
+use Rattle.emdf_fields.specs.declared.GroupRead.TheVariants.{Last, More}
+use Rattle.emdf_fields.proofs.Answers.{Found, field_found, field-ended, via, yes as granted, no_more}
+use Rattle.std.specs.Prelude.{Some, None, Ok, Err}
 
 -- ---- a group whose value is there
 
 -- past the more bit, by what the three questions answer
 rest : (w limit sum next : ℕ) (s : List ℕ) (e q : ℕ) (t u v : Bool)
-    → (if t then GroupAnswer.Last sum (cursor_at e q) else (if u then (if v then GroupAnswer.More next (cursor_at e q) else GroupAnswer.Refused ValueOverflow (cursor_at e q)) else GroupAnswer.Refused (VariableBitsGroupLimit w limit) (cursor_at e q)))
-    ≡ group_answer e (choose t (give (last sum)) (ask u (VariableBitsGroupLimit w limit) >>= λ _. ask v ValueOverflow >>= λ _. give (more next)) s e q)
-unfolding group_answer group_found choose ask give ◌>>=◌ and_then
+    → (if t then Ok (Last sum, cursor_at e q) else (if u then (if v then Ok (More next, cursor_at e q) else Err (record { why = ValueOverflow; cursor = cursor_at e q })) else Err (record { why = VariableBitsGroupLimit w limit; cursor = cursor_at e q })))
+    ≡ field_answer e (choose t (give (Last sum)) (ask u (VariableBitsGroupLimit w limit) >>= λ _. ask v ValueOverflow >>= λ _. give (More next)) s e q)
+unfolding field_answer choose ask give ◌>>=◌ and_then
 rest w limit sum next s e q true u v = refl
 rest w limit sum next s e q false true true = refl
 rest w limit sum next s e q false true false = refl
 rest w limit sum next s e q false false v = refl
 
 module _ (w limit n start : ℕ) (s : List ℕ) (e p : ℕ) {value : ℕ} {c₁ : BitCursor} (f : Found (bits w s e p) e value c₁) where
-  pub value-overflows : 2 ^ 64 ≤ start + value → GroupAnswer.Refused ValueOverflow c₁ ≡ group_answer e (one_group w limit n start s e p)
-  unfolding one_group group_answer
-  value-overflows h = via group_answer _ _ _ _ _ f (no_more group_answer _ _ _ _ _ _ (T-not-of (le-ltb _ _ h)) refl)
+  pub value-overflows : 2 ^ 64 ≤ start + value → Err (record { why = ValueOverflow; cursor = c₁ }) ≡ field_answer e (one_group w limit n start s e p)
+  unfolding one_group field_answer
+  value-overflows h = via field_answer _ _ _ _ _ f (no_more field_answer _ _ _ _ _ _ (T-not-of (le-ltb _ _ h)) refl)
 
   -- the more bit is there, too
   pub rest-found : {flag : ℕ} {c₂ : BitCursor} → start + value < 2 ^ 64 → Found (bits 1 s c₁.end c₁.position) c₁.end flag c₂
-      → group_rest w limit n (start + value) flag c₂.end c₂.position ≡ group_answer e (one_group w limit n start s e p)
+      → group_rest w limit n (start + value) flag c₂.end c₂.position ≡ field_answer e (one_group w limit n start s e p)
   unfolding one_group group_rest
   rest-found {flag} {c₂} l g =
-      via group_answer _ _ _ _ _ f
-      (granted group_answer _ _ _ _ _ _ (T_of (lt-ltb _ _ l))
-      (via group_answer _ _ _ _ _ g (rest w limit _ _ s _ _ (eqb flag 0) (ltb 0 n) (ltb ((start + value) * 2 ^ w + 2 ^ w) (2 ^ 64)))))
+      via field_answer _ _ _ _ _ f
+      (granted field_answer _ _ _ _ _ _ (T_of (lt-ltb _ _ l))
+      (via field_answer _ _ _ _ _ g (rest w limit _ _ s _ _ (eqb flag 0) (ltb 0 n) (ltb ((start + value) * 2 ^ w + 2 ^ w) (2 ^ 64)))))
 
 -- both are in the word at p
 pub group-word : (w limit n start : ℕ) (s : List ℕ) (e p : ℕ) → w ≤ 56 → w < bits_remaining s (cursor_at e p)
-    → group_of w limit n start (window_at s p / 2 ^ (64 - w)) (window_at s p / 2 ^ (63 - w) % 2) e (p + w) ≡ group_answer e (one_group w limit n start s e p)
+    → group_of w limit n start (window_at s p / 2 ^ (64 - w)) (window_at s p / 2 ^ (63 - w) % 2) e (p + w) ≡ field_answer e (one_group w limit n start s e p)
 unfolding group_of
 group-word w limit n start s e p h l =
     let x = window_at s p in
@@ -93,9 +85,9 @@ start_is v w = let e : v + 1 ≡ suc v = omega arith in rw (e, suc-mul)
 -- ---- the loop
 
 -- what follows one group
-unfoldable turn : ℕ → ℕ → ℕ → Group → Reader ℕ
-turn w limit n (last v) = give v
-turn w limit n (more v) = groups_from w limit n v
+unfoldable turn : ℕ → ℕ → ℕ → GroupRead → Reader ℕ
+turn w limit n (Last v) = give v
+turn w limit n (More v) = groups_from w limit n v
 
 groups-turn : (w limit n start : ℕ) (s : List ℕ) (e p : ℕ) → groups_from w limit (suc n) start s e p ≡ (one_group w limit n start >>= turn w limit n) s e p
 unfolding groups_from one_group turn
@@ -113,38 +105,11 @@ groups-turn w limit n start s e p =
     bind_assoc _ _ (turn w limit n) s e q
     ∙ bind-same _ _ _ s e q (λ _ q. give-more _ q)))))))
   where
-    give-last : (v q : ℕ) → (give (last v) >>= turn w limit n) s e q ≡ give v s e q
-    give-last v q = give-bind (last v) (turn w limit n) s e q ∙ refl
+    give-last : (v q : ℕ) → (give (Last v) >>= turn w limit n) s e q ≡ give v s e q
+    give-last v q = give-bind (Last v) (turn w limit n) s e q ∙ refl
 
-    give-more : (v q : ℕ) → (give (more v) >>= turn w limit n) s e q ≡ groups_from w limit n v s e q
-    give-more v q = give-bind (more v) (turn w limit n) s e q
-
-last_found : {e : ℕ} (x : Read Group) {v : ℕ} {c : BitCursor} → group_answer e x ≡ GroupAnswer.Last v c → Found x e (last v) c
-unfolding group_answer group_found
-last_found {e} (got (last w) q) {v} {c} h =
-    let a : w ≡ v = cc in
-    let b : cursor_at e q ≡ c = cc in
-    record { is = rw (a, ← b); end = rw (← b) }
-last_found (got (more w) q) h = absurd (let z : ◌≡◌ {A = ℕ} 0 1 = cc in omega arith)
-last_found (refused why q) h = absurd (let z : ◌≡◌ {A = ℕ} 0 1 = cc in omega arith)
-
-more-found : {e : ℕ} (x : Read Group) {v : ℕ} {c : BitCursor} → group_answer e x ≡ GroupAnswer.More v c → Found x e (more v) c
-unfolding group_answer group_found
-more-found (got (last w) q) h = absurd (let z : ◌≡◌ {A = ℕ} 0 1 = cc in omega arith)
-more-found {e} (got (more w) q) {v} {c} h =
-    let a : w ≡ v = cc in
-    let b : cursor_at e q ≡ c = cc in
-    record { is = rw (a, ← b); end = rw (← b) }
-more-found (refused why q) h = absurd (let z : ◌≡◌ {A = ℕ} 0 1 = cc in omega arith)
-
-group-refused : {e : ℕ} (x : Read Group) {why : EmdfError} {c : BitCursor} → group_answer e x ≡ GroupAnswer.Refused why c → Ended x e why c
-unfolding group_answer group_found
-group-refused (got (last w) q) h = absurd (let z : ◌≡◌ {A = ℕ} 0 1 = cc in omega arith)
-group-refused (got (more w) q) h = absurd (let z : ◌≡◌ {A = ℕ} 0 1 = cc in omega arith)
-group-refused {e} (refused why' q) {why} {c} h =
-    let a : why' ≡ why = cc in
-    let b : cursor_at e q ≡ c = cc in
-    record { is = rw (a, ← b); end = rw (← b) }
+    give-more : (v q : ℕ) → (give (More v) >>= turn w limit n) s e q ≡ groups_from w limit n v s e q
+    give-more v q = give-bind (More v) (turn w limit n) s e q
 
 module _ (w limit left start : ℕ) (s : List ℕ) (e p : ℕ) (pos : 0 < left) where
   split : groups_from w limit left start s e p ≡ (one_group w limit (left - 1) start >>= turn w limit (left - 1)) s e p
@@ -155,52 +120,52 @@ module _ (w limit left start : ℕ) (s : List ℕ) (e p : ℕ) (pos : 0 < left) 
       at (suc m) h = let z : suc m - 1 ≡ m = omega arith in rw z (groups-turn w limit m start s e p)
 
   -- the group is the last
-  pub at_last : {v : ℕ} {c : BitCursor} → group_answer e (one_group w limit (left - 1) start s e p) ≡ GroupAnswer.Last v c
-      → FieldAnswer.Value v c ≡ field_answer e (groups_from w limit left start s e p)
+  pub at_last : {v : ℕ} {c : BitCursor} → field_answer e (one_group w limit (left - 1) start s e p) ≡ Ok (Last v, c)
+      → Ok (v, c) ≡ field_answer e (groups_from w limit left start s e p)
   unfolding turn field_answer give
   at_last h =
-      let d = last_found (one_group w limit (left - 1) start s e p) h in
+      let d = field_found (one_group w limit (left - 1) start s e p) h in
       rw (split, bind-go (one_group w limit (left - 1) start) (turn w limit (left - 1)) d.is refl, ← d.end)
 
   -- it is refused
-  pub at-refused : {why : EmdfError} {c : BitCursor} → group_answer e (one_group w limit (left - 1) start s e p) ≡ GroupAnswer.Refused why c
-      → FieldAnswer.Refused why c ≡ field_answer e (groups_from w limit left start s e p)
+  pub at-refused : {f : FieldError} → field_answer e (one_group w limit (left - 1) start s e p) ≡ Err f
+      → field_answer e (groups_from w limit left start s e p) ≡ Err f
   unfolding field_answer
   at-refused h =
-      let d = group-refused (one_group w limit (left - 1) start s e p) h in
+      let d = field-ended (one_group w limit (left - 1) start s e p) h in
       rw (split, bind-no (one_group w limit (left - 1) start) (turn w limit (left - 1)) d.is, ← d.end)
 
   -- another one follows
-  pub at_more : {v : ℕ} {c : BitCursor} → group_answer e (one_group w limit (left - 1) start s e p) ≡ GroupAnswer.More v c
+  pub at_more : {v : ℕ} {c : BitCursor} → field_answer e (one_group w limit (left - 1) start s e p) ≡ Ok (More v, c)
       → field_answer c.end (groups_from w limit (left - 1) v s c.end c.position) ≡ field_answer e (groups_from w limit left start s e p)
   unfolding turn
   at_more h =
-      let d = more-found (one_group w limit (left - 1) start s e p) h in
+      let d = field_found (one_group w limit (left - 1) start s e p) h in
       rw (split, bind-go (one_group w limit (left - 1) start) (turn w limit (left - 1)) d.is refl, d.end)
 
 -- ---- what the next start's answer says
 
-pub start-found : (v : ℕ) {x : ℕ} → start_answer v ≡ Start x → (v ≡ x) × (ltb v (2 ^ 64) ≡ true)
+pub start-found : (v : ℕ) {x : ℕ} → start_answer v ≡ Some x → (v ≡ x) × (ltb v (2 ^ 64) ≡ true)
 unfolding start_answer
 start-found v {x} h = go (ltb v (2 ^ 64)) refl h
   where
-    go : (t : Bool) → ltb v (2 ^ 64) ≡ t → (if t then Start v else TooLarge) ≡ Start x → (v ≡ x) × (ltb v (2 ^ 64) ≡ true)
+    go : (t : Bool) → ltb v (2 ^ 64) ≡ t → (if t then Some v else None) ≡ Some x → (v ≡ x) × (ltb v (2 ^ 64) ≡ true)
     go true a f = (cc, a)
     go false a f = absurd (let z : ◌≡◌ {A = ℕ} 0 1 = cc in omega arith)
 
-pub start_none : (v : ℕ) → start_answer v ≡ TooLarge → ltb v (2 ^ 64) ≡ false
+pub start_none : (v : ℕ) → start_answer v ≡ None → ltb v (2 ^ 64) ≡ false
 unfolding start_answer
 start_none v h = go (ltb v (2 ^ 64)) refl h
   where
-    go : (t : Bool) → ltb v (2 ^ 64) ≡ t → (if t then Start v else TooLarge) ≡ TooLarge → ltb v (2 ^ 64) ≡ false
+    go : (t : Bool) → ltb v (2 ^ 64) ≡ t → (if t then Some v else None) ≡ None → ltb v (2 ^ 64) ≡ false
     go true a f = absurd (let z : ◌≡◌ {A = ℕ} 0 1 = cc in omega arith)
     go false a f = a
 
 -- another group follows only where one is left
-pub more_left : (w limit n start : ℕ) (s : List ℕ) (e p : ℕ) {v : ℕ} {c : BitCursor} → group_answer e (one_group w limit n start s e p) ≡ GroupAnswer.More v c → 0 < n
+pub more_left : (w limit n start : ℕ) (s : List ℕ) (e p : ℕ) {v : ℕ} {c : BitCursor} → field_answer e (one_group w limit n start s e p) ≡ Ok (More v, c) → 0 < n
 unfolding one_group
 more_left w limit n start s e p {v} h =
-    let d = more-found (one_group w limit n start s e p) h in
+    let d = field_found (one_group w limit n start s e p) h in
     taken (bind_inv d.is) λ value q₁ a t₁.
     asked (ask-inv t₁) λ y t₂.
     taken (bind_inv t₂) λ flag q₂ b t₃.

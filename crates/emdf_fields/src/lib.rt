@@ -4,88 +4,80 @@
 ghost use Rattle.std.specs.Prelude.{◌≡◌, ◌+◌, ◌-◌, ◌*◌, ◌^◌, ◌<◌};
 ghost use Rattle.emdf_format.specs.Syntax.{escape as ones};
 ghost use Rattle.emdf_format.specs.Reader.{bits, groups_from, variable_bits, extended_value, octets};
-ghost use Rattle.emdf_fields.specs.Fields.{field_answer, variable_answer, group_answer, start_answer, refused_group, one_group, group_of, group_rest, count_answer, field_error, count_error};
+ghost use Rattle.emdf_fields.specs.Fields.{field_answer, variable_answer, start_answer, one_group, group_of, group_rest, count_answer};
 
 use emdf_format::{EmdfError, MAX_EXTENDED_GROUPS};
-use openjoc_bitio::{BitCursor, BitError, BitsAnswer};
+use openjoc_bitio::{BitCursor, BitError};
 
-// A number field's answer. A refused field has the cursor after the last bit that it read.
+// Why a field is refused, and the cursor after the last bit that was read.
 #[derive(Clone, Copy)]
-pub enum FieldAnswer {
-    Value(u64, BitCursor),
-    Refused(EmdfError, BitCursor),
+pub struct FieldError {
+    pub why: EmdfError,
+    pub cursor: BitCursor,
 }
 
-// A variable field's answer: its value, how many groups it has, and the cursor past them.
-#[derive(Clone, Copy)]
-pub enum VariableAnswer {
-    Value(u64, usize, BitCursor),
-    Refused(EmdfError, BitCursor),
+impl From<FieldError> for EmdfError {
+    ghost from_gives = { λ e why. why ≡ e.why };
+
+    fn from(e: FieldError) -> EmdfError {
+        e.why
+    }
 }
 
-// How many octets there are, and the cursor past them.
+// One group of a variable field: the last, with the field's value, or one with another after it, whose sum starts there.
 #[derive(Clone, Copy)]
-pub enum CountAnswer {
-    Counted(usize, BitCursor),
-    Refused(EmdfError),
-}
-
-// What one group of a variable field answers: the value, or where the next group's sum starts.
-#[derive(Clone, Copy)]
-enum GroupAnswer {
-    Last(u64, BitCursor),
-    More(u64, BitCursor),
-    Refused(EmdfError, BitCursor),
-}
-
-#[derive(Clone, Copy)]
-enum StartAnswer {
-    Start(u64),
-    TooLarge,
+enum GroupRead {
+    Last(u64),
+    More(u64),
 }
 
 // The next n bits.
-pub fn read_bits(s: &[u8], c: BitCursor, n: u8) -> FieldAnswer
+pub fn read_bits(s: &[u8], c: BitCursor, n: u8) -> Result<(u64, BitCursor), FieldError>
     ensures { result ≡ field_answer c.end (bits n s.now c.end c.position) }
 {
-    let a = c.read_bits(s, n);
-    match a {
-        BitsAnswer::Value(value, next) => FieldAnswer::Value(value, next),
-        BitsAnswer::Refused(why) => FieldAnswer::Refused(EmdfError::Bit(why), c),
+    match c.read_bits(s, n) {
+        Ok((value, next)) => Ok((value, next)),
+        Err(why) => Err(FieldError {
+            why: EmdfError::Bit(why),
+            cursor: c,
+        }),
     }
 }
 
 // A variable field: groups of width value bits and a more bit, at most limit of them; and how many they are.
-pub fn variable_bits(s: &[u8], c: BitCursor, width: u8, limit: u8) -> VariableAnswer
+pub fn variable_bits(
+    s: &[u8],
+    c: BitCursor,
+    width: u8,
+    limit: u8,
+) -> Result<(u64, usize, BitCursor), FieldError>
     ensures { result ≡ variable_answer width c.end (variable_bits width limit s.now c.end c.position) }
 {
     let start = c.position;
-    match variable_field(s, c, width, limit) {
-        FieldAnswer::Value(value, next) => {
-            let groups = (next.position - start) / (width as usize + 1);
-            VariableAnswer::Value(value, groups, next)
-        }
-        FieldAnswer::Refused(why, next) => VariableAnswer::Refused(why, next),
-    }
+    let (value, next) = variable_field(s, c, width, limit)?;
+    let groups = (next.position - start) / (width as usize + 1);
+    Ok((value, groups, next))
 }
 
 // The same as a field, for callers who know the groups from the value.
-pub fn variable_field(s: &[u8], c: BitCursor, width: u8, limit: u8) -> FieldAnswer
+pub fn variable_field(
+    s: &[u8],
+    c: BitCursor,
+    width: u8,
+    limit: u8,
+) -> Result<(u64, BitCursor), FieldError>
     ensures { result ≡ field_answer c.end (variable_bits width limit s.now c.end c.position) }
 {
-    if width == 0 {
-        return FieldAnswer::Refused(EmdfError::InvalidVariableBits { width, limit }, c);
-    }
-    if 63 < width {
-        return FieldAnswer::Refused(EmdfError::InvalidVariableBits { width, limit }, c);
-    }
-    if limit == 0 {
-        return FieldAnswer::Refused(EmdfError::InvalidVariableBits { width, limit }, c);
+    if width == 0 || 63 < width || limit == 0 {
+        return Err(FieldError {
+            why: EmdfError::InvalidVariableBits { width, limit },
+            cursor: c,
+        });
     }
     groups(s, c, width, limit)
 }
 
-fn groups(s: &[u8], c: BitCursor, width: u8, limit: u8) -> FieldAnswer
+fn groups(s: &[u8], c: BitCursor, width: u8, limit: u8) -> Result<(u64, BitCursor), FieldError>
     requires { (0 < width) × (width < 64) × (0 < limit) }
     ensures { result ≡ field_answer c.end (groups_from width limit limit 0 s.now c.end c.position) }
 {
@@ -93,16 +85,17 @@ fn groups(s: &[u8], c: BitCursor, width: u8, limit: u8) -> FieldAnswer
     let mut at = c;
     let mut left = limit;
     loop {
-        let g = group(s, at, width, limit, left, start);
-        match g {
-            GroupAnswer::Last(value, next) => {
-                return FieldAnswer::Value(value, next);
-            }
-            GroupAnswer::Refused(why, next) => {
-                return FieldAnswer::Refused(why, next);
-            }
-            GroupAnswer::More(value, next) => {
-                start = value;
+        let turn = GroupTurn {
+            width,
+            limit,
+            left,
+            start,
+        };
+        let (found, next) = turn.group(s, at)?;
+        match found {
+            GroupRead::Last(value) => return Ok((value, next)),
+            GroupRead::More(sum) => {
+                start = sum;
                 at = next;
                 left -= 1;
             }
@@ -110,182 +103,151 @@ fn groups(s: &[u8], c: BitCursor, width: u8, limit: u8) -> FieldAnswer
     }
 }
 
-// One group, where left are still allowed: from a word, where its bits are in one and are there.
-fn group(s: &[u8], c: BitCursor, width: u8, limit: u8, left: u8, start: u64) -> GroupAnswer
-    requires { (0 < width) × (width < 64) × (0 < left) }
-    ensures { result ≡ group_answer c.end (one_group width limit (left - 1) start s.now c.end c.position) }
-{
-    let position = c.position;
-    let end = c.end;
-    let w = width as usize;
-    if w <= 56 {
-        if w < (BitCursor { position, end }).bits_remaining(s) {
+// A group that is to be read: its width, of the field's limit how many are left with it, and the sum that it adds to.
+#[derive(Clone, Copy)]
+struct GroupTurn {
+    width: u8,
+    limit: u8,
+    left: u8,
+    start: u64,
+    ghost in_range: { (0 < width) × (width < 64) × (0 < left) },
+}
+
+impl GroupTurn {
+    // From a word, where its bits are in one and are there.
+    fn group(self, s: &[u8], c: BitCursor) -> Result<(GroupRead, BitCursor), FieldError>
+        ensures { result ≡ field_answer c.end (one_group self.width self.limit (self.left - 1) self.start s.now c.end c.position) }
+    {
+        let position = c.position;
+        let end = c.end;
+        let w = self.width as usize;
+        if w <= 56 && w < (BitCursor { position, end }).bits_remaining(s) {
             let x = openjoc_bitio::window_at(s, position);
-            return group_of(
-                x >> (64 - w),
-                (x >> (63 - w)) % 2,
-                position + w,
-                end,
-                width,
-                limit,
-                left,
-                start,
-            );
+            return self.group_of(x >> (64 - w), (x >> (63 - w)) % 2, position + w, end);
         }
+        self.group_by_fields(s, BitCursor { position, end })
     }
-    group_by_fields(s, BitCursor { position, end }, width, limit, left, start)
-}
 
-// The same by two reads.
-fn group_by_fields(
-    s: &[u8],
-    c: BitCursor,
-    width: u8,
-    limit: u8,
-    left: u8,
-    start: u64,
-) -> GroupAnswer
-    requires { (0 < width) × (width < 64) × (0 < left) }
-    ensures { result ≡ group_answer c.end (one_group width limit (left - 1) start s.now c.end c.position) }
-{
-    let a = read_bits(s, c, width);
-    let FieldAnswer::Value(value, c1) = a else {
-        return refused_group(a);
-    };
-    if 0xffff_ffff_ffff_ffff - start < value {
-        return GroupAnswer::Refused(EmdfError::ValueOverflow, c1);
+    // The same by two reads.
+    fn group_by_fields(self, s: &[u8], c: BitCursor) -> Result<(GroupRead, BitCursor), FieldError>
+        ensures { result ≡ field_answer c.end (one_group self.width self.limit (self.left - 1) self.start s.now c.end c.position) }
+    {
+        let start = self.start;
+        let (value, c1) = read_bits(s, c, self.width)?;
+        if 0xffff_ffff_ffff_ffff - start < value {
+            return Err(FieldError {
+                why: EmdfError::ValueOverflow,
+                cursor: c1,
+            });
+        }
+        let (more, c2) = read_bits(s, c1, 1)?;
+        self.group_rest(start + value, more, c2.position, c2.end)
     }
-    let m = read_bits(s, c1, 1);
-    let FieldAnswer::Value(more, c2) = m else {
-        return refused_group(m);
-    };
-    group_rest(start + value, more, c2.position, c2.end, width, limit, left)
-}
 
-// A group of this value, which ends at a position, and of this more bit after it.
-fn group_of(
-    value: u64,
-    more: u64,
-    position: usize,
-    end: usize,
-    width: u8,
-    limit: u8,
-    left: u8,
-    start: u64,
-) -> GroupAnswer
-    requires { (0 < width) × (width < 64) × (0 < left) × (position < end) }
-    ensures { result ≡ group_of width limit (left - 1) start value more end position }
-{
-    if 0xffff_ffff_ffff_ffff - start < value {
-        return GroupAnswer::Refused(EmdfError::ValueOverflow, BitCursor { position, end });
+    // Of this value, which ends at a position, and of this more bit after it.
+    fn group_of(
+        self,
+        value: u64,
+        more: u64,
+        position: usize,
+        end: usize,
+    ) -> Result<(GroupRead, BitCursor), FieldError>
+        requires { position < end }
+        ensures { result ≡ group_of self.width self.limit (self.left - 1) self.start value more end position }
+    {
+        let start = self.start;
+        if 0xffff_ffff_ffff_ffff - start < value {
+            return Err(FieldError {
+                why: EmdfError::ValueOverflow,
+                cursor: BitCursor { position, end },
+            });
+        }
+        self.group_rest(start + value, more, position + 1, end)
     }
-    group_rest(start + value, more, position + 1, end, width, limit, left)
-}
 
-// A group that makes this sum, past its more bit.
-fn group_rest(
-    sum: u64,
-    more: u64,
-    position: usize,
-    end: usize,
-    width: u8,
-    limit: u8,
-    left: u8,
-) -> GroupAnswer
-    requires { (0 < width) × (width < 64) × (0 < left) }
-    ensures { result ≡ group_rest width limit (left - 1) sum more end position }
-{
-    let next = BitCursor { position, end };
-    if more == 0 {
-        return GroupAnswer::Last(sum, next);
-    }
-    if left == 1 {
-        return GroupAnswer::Refused(EmdfError::VariableBitsGroupLimit { width, limit }, next);
-    }
-    let n = next_start(sum, width);
-    let StartAnswer::Start(start) = n else {
-        return GroupAnswer::Refused(EmdfError::ValueOverflow, next);
-    };
-    GroupAnswer::More(start, next)
-}
-
-// The refusal of a read, as a group's.
-fn refused_group(a: FieldAnswer) -> GroupAnswer
-    ensures { result ≡ refused_group a result }
-{
-    match a {
-        FieldAnswer::Value(value, c) => GroupAnswer::Last(value, c),
-        FieldAnswer::Refused(why, c) => GroupAnswer::Refused(why, c),
+    // One that makes this sum, past its more bit.
+    fn group_rest(
+        self,
+        sum: u64,
+        more: u64,
+        position: usize,
+        end: usize,
+    ) -> Result<(GroupRead, BitCursor), FieldError>
+        ensures { result ≡ group_rest self.width self.limit (self.left - 1) sum more end position }
+    {
+        let width = self.width;
+        let limit = self.limit;
+        let left = self.left;
+        let next = BitCursor { position, end };
+        if more == 0 {
+            return Ok((GroupRead::Last(sum), next));
+        }
+        if left == 1 {
+            return Err(FieldError {
+                why: EmdfError::VariableBitsGroupLimit { width, limit },
+                cursor: next,
+            });
+        }
+        let Some(start) = next_start(sum, width) else {
+            return Err(FieldError {
+                why: EmdfError::ValueOverflow,
+                cursor: next,
+            });
+        };
+        Ok((GroupRead::More(start), next))
     }
 }
 
 // Where the next group's sum starts: value * 2^width + 2^width, in 64 bits.
-fn next_start(value: u64, width: u8) -> StartAnswer
+fn next_start(value: u64, width: u8) -> Option<u64>
     requires { (0 < width) × (width < 64) }
     ensures { result ≡ start_answer (value * 2 ^ width + 2 ^ width) }
 {
     let w = width as usize;
     let most = 0xffff_ffff_ffff_ffff >> w;
     if most <= value {
-        return StartAnswer::TooLarge;
+        return None;
     }
-    StartAnswer::Start((value + 1) << w)
+    Some((value + 1) << w)
 }
 
 // A field with an escape, to which a variable field is added; the escape is all ones.
-pub fn extended_value(s: &[u8], c: BitCursor, escape: u64, width: u8) -> FieldAnswer
+pub fn extended_value(
+    s: &[u8],
+    c: BitCursor,
+    escape: u64,
+    width: u8,
+) -> Result<(u64, BitCursor), FieldError>
     requires { (width < 64) × (escape ≡ ones width) }
     ensures { result ≡ field_answer c.end (extended_value width s.now c.end c.position) }
 {
-    let a = read_bits(s, c, width);
-    let FieldAnswer::Value(base, c1) = a else {
-        return a;
-    };
+    let (base, c1) = read_bits(s, c, width)?;
     if base != escape {
-        return FieldAnswer::Value(base, c1);
+        return Ok((base, c1));
     }
-    let b = variable_field(s, c1, width, MAX_EXTENDED_GROUPS);
-    let FieldAnswer::Value(value, c2) = b else {
-        return b;
-    };
+    let (value, c2) = variable_field(s, c1, width, MAX_EXTENDED_GROUPS)?;
     if 0xffff_ffff_ffff_ffff - base < value {
-        return FieldAnswer::Refused(EmdfError::ValueOverflow, c2);
+        return Err(FieldError {
+            why: EmdfError::ValueOverflow,
+            cursor: c2,
+        });
     }
-    FieldAnswer::Value(base + value, c2)
-}
-
-// Why a field was refused. Only a refusal is asked.
-pub fn field_error(a: FieldAnswer) -> EmdfError
-    ensures { result ≡ field_error a result }
-{
-    match a {
-        FieldAnswer::Value(_, _) => EmdfError::ValueOverflow,
-        FieldAnswer::Refused(why, _) => why,
-    }
-}
-
-pub fn count_error(a: CountAnswer) -> EmdfError
-    ensures { result ≡ count_error a result }
-{
-    match a {
-        CountAnswer::Counted(_, _) => EmdfError::ValueOverflow,
-        CountAnswer::Refused(why) => why,
-    }
+    Ok((base + value, c2))
 }
 
 // Past n octets in one step. A missing one is refused as its own read would be.
-pub fn skip_octets(s: &[u8], c: BitCursor, n: u64) -> CountAnswer
+pub fn skip_octets(s: &[u8], c: BitCursor, n: u64) -> Result<(usize, BitCursor), EmdfError>
     ensures { result ≡ count_answer c.end (octets n s.now c.end c.position) }
 {
     let remaining = c.bits_remaining(s);
     let there = (remaining / 8) as u64;
     if there < n {
-        return CountAnswer::Refused(EmdfError::Bit(BitError::EndOfInput {
+        return Err(EmdfError::Bit(BitError::EndOfInput {
             requested: 8,
             remaining: remaining % 8,
         }));
     }
     let position = c.position + (n as usize) * 8;
     let end = c.end;
-    CountAnswer::Counted(n as usize, BitCursor { position, end })
+    Ok((n as usize, BitCursor { position, end }))
 }

@@ -11,11 +11,9 @@ use lib.Pow.{pow_pos, high, pow_mono}
 use lib.Pow.{split as pow-split}
 use lib.Arith.{digits_lt}
 use lib.Dec.{ltb}
-use Rattle.std.specs.Prelude.{if◌then◌else◌}
+use Rattle.std.specs.Prelude.{if◌then◌else◌, Option, Some, None}
 use Rattle.openjoc_bitio.specs.Bits.{bits_value, number_bits}
 use Rattle.openjoc_bitio.proofs.Bits.{value-octet, length-number, number-high, number-low}
-use Rattle.emdf_format.specs.declared.Optional.{Optional}
-use Rattle.emdf_format.specs.declared.Optional.TheVariants.{Absent, Present}
 use Rattle.emdf_format.specs.declared.EmdfPayloadConfig.{EmdfPayloadConfig}
 use Rattle.emdf_format.specs.Syntax.{◌⨟◌, groups_before, variable_field, escape, extended_field, octet_bits, flagged_field, present_field}
 use Rattle.emdf_format.specs.Contents.{Payload, Contents, codec_data_bits, sample_offset_bits, config_bits, payload_bits, payloads_bits, protection_bits, container_bits, declared, carrier_bits, bits_number, bytes_of, carrier}
@@ -176,15 +174,15 @@ unfolding octet_bits
 bits-octets [] = over
 bits-octets (b ∷ bs) = bits-then (bits-number _ _) (bits-octets bs)
 
-bits-flagged : (wr : ℕ → List ℕ) → ((v : ℕ) → AllBits (wr v)) → (o : Optional) → AllBits (flagged_field wr o)
+bits-flagged : (wr : ℕ → List ℕ) → ((v : ℕ) → AllBits (wr v)) → (o : Option ℕ) → AllBits (flagged_field wr o)
 unfolding flagged_field
-bits-flagged wr f Absent = bits-0
-bits-flagged wr f (Present v) = let l : 1 < 2 = omega arith in one l (f v)
+bits-flagged wr f None = bits-0
+bits-flagged wr f (Some v) = let l : 1 < 2 = omega arith in one l (f v)
 
-bits-present : (w : ℕ) (o : Optional) → AllBits (present_field (number_bits w) o)
+bits-present : (w : ℕ) (o : Option ℕ) → AllBits (present_field (number_bits w) o)
 unfolding present_field
-bits-present w Absent = over
-bits-present w (Present v) = bits-number w v
+bits-present w None = over
+bits-present w (Some v) = bits-number w v
 
 bits-sample : (v : ℕ) → AllBits (sample_offset_bits v)
 unfolding sample_offset_bits

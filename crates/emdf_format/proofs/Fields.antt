@@ -8,10 +8,8 @@ use lib.ListN.{length}
 use lib.Dec.{T, leb, ltb, eqb, leb→le, ltb→lt, lt→ltb, nltb→le, eqb→eq, eqb_refl, eqb-suc-suc, lit≤}
 use lib.Arith.{le→nltb}
 use lib.Pow.{pow_pos}
-use Rattle.std.specs.Prelude.{if◌then◌else◌}
+use Rattle.std.specs.Prelude.{if◌then◌else◌, Option, Some, None}
 use Rattle.openjoc_bitio.specs.Bits.{number_bits}
-use Rattle.emdf_format.specs.declared.Optional.{Optional}
-use Rattle.emdf_format.specs.declared.Optional.TheVariants.{Absent, Present}
 use Rattle.emdf_format.specs.Syntax.{◌⨟◌, variable_field, capacity, escape, extended_field, octet_bits, flagged_field, present_field}
 use Rattle.emdf_format.specs.Contents.{◌&◌, iff, is_present, when_present, all_bytes}
 use Rattle.emdf_format.specs.Reader.{got, Reader, variable_bits, extended_value, octets, present, flagged}
@@ -165,7 +163,7 @@ agree-eq false true h = absurd h
 agree-eq false false h = refl
 
 module _ {r : Reader ℕ} {wr : ℕ → List ℕ} {fit : ℕ → Bool} (c : Codec r wr fit) where
-  present-sound : (t : Bool) {s : List ℕ} {e p q : ℕ} {o : Optional} → present t r s e p ≡ got o q
+  present-sound : (t : Bool) {s : List ℕ} {e p q : ℕ} {o : Option ℕ} → present t r s e p ≡ got o q
       → Stands s e p q (present_field wr o) × T (when_present fit o & iff (is_present o) t)
   unfolding present present_field when_present iff is_present
   present-sound t h =
@@ -173,16 +171,16 @@ module _ {r : Reader ℕ} {wr : ℕ → List ℕ} {fit : ℕ → Bool} (c : Code
       (λ z t₁. step c (bind_inv t₁) λ v p₁ sv fv t₂. let d = give-inv t₂ in rw (← d.what, ← d.to) (sv, and _ _ fv z))
       λ z t₁. let d = give-inv t₁ in rw (← d.what, ← d.to) (nil, and _ _ tt z)
 
-  present-exact : (t : Bool) {s : List ℕ} {e p q : ℕ} (o : Optional) → T (when_present fit o & iff (is_present o) t) → Stands s e p q (present_field wr o)
+  present-exact : (t : Bool) {s : List ℕ} {e p q : ℕ} (o : Option ℕ) → T (when_present fit o & iff (is_present o) t) → Stands s e p q (present_field wr o)
       → present t r s e p ≡ got o q
   unfolding present present_field when_present iff is_present
-  present-exact t {s} {e} Absent f nil = choose-that _ _ _ (both f).right (give-go s e refl refl)
-  present-exact t {s} {e} (Present v) f h = choose-this _ _ _ (both f).right (bind-go _ _ (c.exact (both f).left h) (give-go s e refl refl))
+  present-exact t {s} {e} None f nil = choose-that _ _ _ (both f).right (give-go s e refl refl)
+  present-exact t {s} {e} (Some v) f h = choose-this _ _ _ (both f).right (bind-go _ _ (c.exact (both f).left h) (give-go s e refl refl))
 
   pub present-law : (t : Bool) → Codec (present t r) (present_field wr) (λ o. when_present fit o & iff (is_present o) t)
   present-law t = record { sound = present-sound t; exact = λ {a = o} f h. present-exact t o f h }
 
-  flagged-sound : {s : List ℕ} {e p q : ℕ} {o : Optional} → flagged r s e p ≡ got o q → Stands s e p q (flagged_field wr o) × T (when_present fit o)
+  flagged-sound : {s : List ℕ} {e p q : ℕ} {o : Option ℕ} → flagged r s e p ≡ got o q → Stands s e p q (flagged_field wr o) × T (when_present fit o)
   unfolding flagged present flagged_field when_present ◌⨟◌
   flagged-sound h =
       step (bits-law 1 (lit≤ tt)) (bind_inv h) λ f p₁ sf lf t₁.
@@ -190,10 +188,10 @@ module _ {r : Reader ℕ} {wr : ℕ → List ℕ} {fit : ℕ → Bool} (c : Code
       (λ z t₂. step c (bind_inv t₂) λ v p₂ sv fv t₃. let d = give-inv t₃ in rw (← d.what, ← d.to) (join (bit-one f sf (eqb→eq f 1 z)) sv, fv))
       λ z t₂. let d = give-inv t₂ in rw (← d.what, ← d.to) (bit-zero f sf (rw (let z₀ : f ≡ 0 = omega (arith, ltb→lt f 2 lf, neqb→ne f 1 z) in z₀) tt), tt)
 
-  flagged-exact : {s : List ℕ} {e p q : ℕ} (o : Optional) → T (when_present fit o) → Stands s e p q (flagged_field wr o) → flagged r s e p ≡ got o q
+  flagged-exact : {s : List ℕ} {e p q : ℕ} (o : Option ℕ) → T (when_present fit o) → Stands s e p q (flagged_field wr o) → flagged r s e p ≡ got o q
   unfolding flagged present flagged_field when_present number_bits
-  flagged-exact {s} {e} Absent f h = bind-go _ _ ((bits-law 1 (lit≤ tt)).exact {a = 0} tt h) (choose-that _ _ _ tt (give-go s e refl refl))
-  flagged-exact {s} {e} (Present v) f (cons l b h) =
+  flagged-exact {s} {e} None f h = bind-go _ _ ((bits-law 1 (lit≤ tt)).exact {a = 0} tt h) (choose-that _ _ _ tt (give-go s e refl refl))
+  flagged-exact {s} {e} (Some v) f (cons l b h) =
       bind-go _ _ ((bits-law 1 (lit≤ tt)).exact {a = 1} tt (cons l b nil))
       (choose-this _ _ _ tt (bind-go _ _ (c.exact f h) (give-go s e refl refl)))
 

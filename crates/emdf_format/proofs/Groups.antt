@@ -8,9 +8,7 @@ use native.Mathlib.Omega.{arith}
 use lib.ListN.{length}
 use lib.Dec.{T, ltb, ltb→lt, leb→le, lit≤, lit<}
 use borrow.Author.Tests.{ltb-true, ltb-false, le-ltb, lt-ltb}
-use Rattle.std.specs.Prelude.{if◌then◌else◌}
-use Rattle.emdf_format.specs.declared.Optional.{Optional}
-use Rattle.emdf_format.specs.declared.Optional.TheVariants.{Absent, Present}
+use Rattle.std.specs.Prelude.{if◌then◌else◌, Option, Some, None}
 use Rattle.emdf_format.specs.Syntax.{groups, capacity, escape, extended_groups}
 use Rattle.emdf_format.specs.Contents.{when_present, up_to, Payload, Contents, writable_config, writable_payload, writable_payloads, writable, needed_payload, needed_payloads, needed_bits}
 use Rattle.emdf_format.specs.Reader.{got, variable_bits}
@@ -82,10 +80,10 @@ extended-most w v h k = by (ltb v (escape w))
     by true = omega arith
     by false = groups-least w (v - escape w) 31 (omega arith)
 
-optional-most : (w n : ℕ) (o : Optional) → n < capacity w 31 → T (when_present (up_to n) o) → optional_groups w o ≤ 31
+optional-most : (w n : ℕ) (o : Option ℕ) → n < capacity w 31 → T (when_present (up_to n) o) → optional_groups w o ≤ 31
 unfolding optional_groups when_present up_to
-optional-most w n Absent l h = omega arith
-optional-most w n (Present v) l h = groups-least w v 31 (omega (arith, leb→le v n h))
+optional-most w n None l h = omega arith
+optional-most w n (Some v) l h = groups-least w v 31 (omega (arith, leb→le v n h))
 
 size-most : (n : ℕ) → n < 65792 → groups 8 n ≤ 31
 unfolding capacity

@@ -6,11 +6,9 @@ use Prim.Native.Nat.{ℕ, zero, suc, ◌+◌, ◌-◌, ◌*◌}
 use native.Mathlib.Omega.{arith}
 use lib.ListN.{length}
 use lib.Dec.{ltb, eqb, eqb-suc-zero}
-use Rattle.std.specs.Prelude.{if◌then◌else◌}
+use Rattle.std.specs.Prelude.{if◌then◌else◌, Option, Some, None}
 use Rattle.openjoc_bitio.specs.Bits.{number_bits}
 use Rattle.openjoc_bitio.proofs.Bits.{length-number}
-use Rattle.emdf_format.specs.declared.Optional.{Optional}
-use Rattle.emdf_format.specs.declared.Optional.TheVariants.{Absent, Present}
 use Rattle.emdf_format.specs.declared.EmdfPayloadConfig.{EmdfPayloadConfig}
 use Rattle.emdf_format.specs.Syntax.{◌⨟◌, variable_field, groups, escape, extended_field, extended_groups, flagged_field, present_field}
 use Rattle.emdf_format.specs.Contents.{Payload, Contents, codec_data_bits, sample_offset_bits, config_bits, payload_bits, payloads_bits, protection_bits, container_bits, extension_bits, flagged_bits, present_bits, needed_config, needed_payload, needed_payloads, needed_bits}
@@ -28,15 +26,15 @@ length-extended w v = by (ltb v (escape w))
     by true = rw length-number (omega arith)
     by false = simp (length-then, length-number, length-field)
 
-length-flagged : (wr : ℕ → List ℕ) (f : ℕ → ℕ) (o : Optional) → ((v : ℕ) → length (wr v) ≡ f v) → length (flagged_field wr o) ≡ flagged_bits f o
+length-flagged : (wr : ℕ → List ℕ) (f : ℕ → ℕ) (o : Option ℕ) → ((v : ℕ) → length (wr v) ≡ f v) → length (flagged_field wr o) ≡ flagged_bits f o
 unfolding flagged_field flagged_bits
-length-flagged wr f Absent h = refl
-length-flagged wr f (Present v) h = omega (arith, h v)
+length-flagged wr f None h = refl
+length-flagged wr f (Some v) h = omega (arith, h v)
 
-length-present : (w : ℕ) (o : Optional) → length (present_field (number_bits w) o) ≡ present_bits w o
+length-present : (w : ℕ) (o : Option ℕ) → length (present_field (number_bits w) o) ≡ present_bits w o
 unfolding present_field present_bits
-length-present w Absent = refl
-length-present w (Present v) = length-number w v
+length-present w None = refl
+length-present w (Some v) = length-number w v
 
 length-codec : (c : ℕ) → length (codec_data_bits c) ≡ (if eqb c 0 then 1 else 9)
 unfolding codec_data_bits

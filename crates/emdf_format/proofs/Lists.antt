@@ -8,10 +8,9 @@ use native.Mathlib.Omega.{arith}
 use lib.ListN.{length, take, drop, replicate, length-append, length-drop}
 use lib.Seq.{take_at, take-length}
 use lib.Dec.{T, leb, eqb, leb→le, le→leb, lt→ltb, eqb_refl}
-use Rattle.std.specs.Prelude.{if◌then◌else◌}
+use Rattle.std.specs.Prelude.{if◌then◌else◌, Ok}
 use Rattle.openjoc_bitio.specs.declared.ByteCount.{ByteCount}
 use Rattle.emdf_format.specs.declared.EditError.{EditError}
-use Rattle.emdf_format.specs.declared.EditAnswer.TheVariants.{Written}
 use Rattle.emdf_format.specs.Syntax.{most_declared}
 use Rattle.emdf_format.specs.Contents.{Payload, Contents, ◌&◌, writable, declared, carrier, all_bytes, bodies_are_bytes, contents_are_bytes}
 use Rattle.emdf_format.specs.Reading.{Container, Reading, accepted, refusal, reading, contents_of}
@@ -172,11 +171,11 @@ keeps-length e src dst = by (step_from (reading src) (length src) e (length dst)
     by (changed d) h = rw (length-append, length-carrier d, length-drop) (omega (arith, from-fits (reading src) (length src) (length dst) e d h))
     by (unchanged why) h = refl
 
-pub in-room : (e : Edit) (src dst : List ℕ) (n : ByteCount) → (edited e src dst).answer ≡ Written n → n.0 ≤ length dst
+pub in-room : (e : Edit) (src dst : List ℕ) (n : ByteCount) → (edited e src dst).answer ≡ Ok n → n.0 ≤ length dst
 unfolding edited step_answer
 in-room e src dst n = by (step_from (reading src) (length src) e (length dst)) refl
   where
-    by : (o : Stepped) → step_from (reading src) (length src) e (length dst) ≡ o → step_answer o ≡ Written n → n.0 ≤ length dst
+    by : (o : Stepped) → step_from (reading src) (length src) e (length dst) ≡ o → step_answer o ≡ Ok n → n.0 ≤ length dst
     by (changed d) h k = let z : record { 0 = carrier_length d } ≡ n = cc in rw (← z) (from-fits (reading src) (length src) (length dst) e d h)
     by (unchanged why) h k = absurd (let z : ◌≡◌ {A = ℕ} 0 1 = cc in omega arith)
 

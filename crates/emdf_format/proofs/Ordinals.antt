@@ -11,8 +11,8 @@ use lib.Dec.{T, eqb, eqb→eq}
 use lib.ListN.{length, get_or, get_elem?, take, drop, take-append-drop}
 use lib.Seq.{length-take-le, drop-cons, take-suc, take-append_seam, take-append-le, take-append-add, get_or-append_seam, get_or-append-add, get_or-take, get_or-drop, take-take}
 use borrow.Author.Tests.{eq-eqb, eqb-true}
-use Rattle.std.specs.Prelude.{if◌then◌else◌}
-use Rattle.emdf_format.specs.Types.{EmdfPayloadConfig, PayloadRow, FindAnswer, FindError}
+use Rattle.std.specs.Prelude.{if◌then◌else◌, Result, Ok, Err}
+use Rattle.emdf_format.specs.Types.{EmdfPayloadConfig, PayloadRow, FindError}
 use Rattle.emdf_format.specs.Contents.{Payload, Contents, ◌&◌}
 use Rattle.emdf_format.specs.Reading.{Found, Container, accepted, payloads_of}
 use Rattle.emdf_format.specs.Ordinals.{occurrences, ordinal_at, ids_of, ids_in, rows_from, rows_of, row_ids, find_in, find_payload, Numbered, FindsExactly}
@@ -388,12 +388,12 @@ module _ (xs : List Found) where
 
 -- ---- finding
 
-found-row : (x o k : ℕ) (rs : List PayloadRow) (p : ℕ) → find_in x o k rs ≡ FindAnswer.Place p → (i : ℕ) × (p ≡ k + i) × Numbered rs i x o
+found-row : (x o k : ℕ) (rs : List PayloadRow) (p : ℕ) → find_in x o k rs ≡ Ok p → (i : ℕ) × (p ≡ k + i) × Numbered rs i x o
 unfolding find_in
 found-row x o k [] p h = absurd (let w : ◌≡◌ {A = ℕ} 0 1 = cc in omega arith)
 found-row x o k (r ∷ rs) p h = go (eqb r.payload.id x & eqb r.ordinal o) refl h (λ f. found-row x o (suc k) rs p f)
   where
-    go : (t : Bool) → (eqb r.payload.id x & eqb r.ordinal o) ≡ t → (if t then FindAnswer.Place k else find_in x o (suc k) rs) ≡ FindAnswer.Place p → (find_in x o (suc k) rs ≡ FindAnswer.Place p → (i : ℕ) × (p ≡ suc k + i) × Numbered rs i x o)
+    go : (t : Bool) → (eqb r.payload.id x & eqb r.ordinal o) ≡ t → (if t then Ok k else find_in x o (suc k) rs) ≡ Ok p → (find_in x o (suc k) rs ≡ Ok p → (i : ℕ) × (p ≡ suc k + i) × Numbered rs i x o)
         → (i : ℕ) × (p ≡ k + i) × Numbered (r ∷ rs) i x o
     go true e f later =
         let d = both (subst T (sym e) tt) in
@@ -403,7 +403,7 @@ found-row x o k (r ∷ rs) p h = go (eqb r.payload.id x & eqb r.ordinal o) refl 
         let (i, l, a) = later f in
         (suc i, omega arith, record { row = a.row; at = a.at; id = a.id; ordinal = a.ordinal })
 
-not_found : (x o k : ℕ) (rs : List PayloadRow) (why : FindError) → find_in x o k rs ≡ FindAnswer.Refused why
+not_found : (x o k : ℕ) (rs : List PayloadRow) (why : FindError) → find_in x o k rs ≡ Err why
     → (why ≡ FindError.NoSuchOrdinal) × ((i : ℕ) → Numbered rs i x o → ⊥)
 unfolding find_in
 not_found x o k [] why h = (cc, λ i a. let w : ◌≡◌ {A = ℕ} 0 1 = cc a.at in omega arith)
@@ -416,7 +416,7 @@ not_found x o k (r ∷ rs) why h = go (eqb r.payload.id x & eqb r.ordinal o) ref
         let l : r.ordinal ≡ o = ap (λ u. u.ordinal) (sym z) ∙ a.ordinal in
         subst T e (and _ _ (subst T (sym (eq-eqb r.payload.id x i)) tt) (subst T (sym (eq-eqb r.ordinal o l)) tt))
 
-    go : (t : Bool) → (eqb r.payload.id x & eqb r.ordinal o) ≡ t → (if t then FindAnswer.Place k else find_in x o (suc k) rs) ≡ FindAnswer.Refused why → (find_in x o (suc k) rs ≡ FindAnswer.Refused why → (why ≡ FindError.NoSuchOrdinal) × ((i : ℕ) → Numbered rs i x o → ⊥))
+    go : (t : Bool) → (eqb r.payload.id x & eqb r.ordinal o) ≡ t → (if t then Ok k else find_in x o (suc k) rs) ≡ Err why → (find_in x o (suc k) rs ≡ Err why → (why ≡ FindError.NoSuchOrdinal) × ((i : ℕ) → Numbered rs i x o → ⊥))
         → (why ≡ FindError.NoSuchOrdinal) × ((i : ℕ) → Numbered (r ∷ rs) i x o → ⊥)
     go true e f later = absurd (let w : ◌≡◌ {A = ℕ} 0 1 = cc in omega arith)
     go false e f later = let (y, g) = later f in (y, none-at g)
@@ -429,32 +429,32 @@ module _ (n : ℕ) (c : Container) (x o : ℕ) where
   abbrev rows : List PayloadRow
   rows = rows_of c.found
 
-  found_at : (k : ℕ) → find_payload x o (accepted n c) ≡ FindAnswer.Place k → Numbered rows k x o
+  found_at : (k : ℕ) → find_payload x o (accepted n c) ≡ Ok k → Numbered rows k x o
   unfolding find_payload
   found_at k h = let (i, e, a) = found-row x o 0 rows k h in subst (λ (j : ℕ). Numbered rows j x o) (omega arith) a
 
-  at-found : (k : ℕ) → Numbered rows k x o → find_payload x o (accepted n c) ≡ FindAnswer.Place k
+  at-found : (k : ℕ) → Numbered rows k x o → find_payload x o (accepted n c) ≡ Ok k
   unfolding find_payload
   at-found k a = go (find_in x o 0 rows) refl
     where
-      go : (r : FindAnswer) → find_in x o 0 rows ≡ r → find_in x o 0 rows ≡ FindAnswer.Place k
-      go (FindAnswer.Place p) h =
+      go : (r : Result ℕ FindError) → find_in x o 0 rows ≡ r → find_in x o 0 rows ≡ Ok k
+      go (Ok p) h =
           let (i, e, b) = found-row x o 0 rows p h in
           let d : p ≡ k = omega (arith, one_place c.found a b) in
-          h ∙ ap FindAnswer.Place d
-      go (FindAnswer.Refused why) h = absurd ((not_found x o 0 rows why h).1 k a)
+          h ∙ ap Ok d
+      go (Err why) h = absurd ((not_found x o 0 rows why h).1 k a)
 
-  none_found : find_payload x o (accepted n c) ≡ FindAnswer.Refused FindError.NoSuchOrdinal → (k : ℕ) → Numbered rows k x o → ⊥
+  none_found : find_payload x o (accepted n c) ≡ Err FindError.NoSuchOrdinal → (k : ℕ) → Numbered rows k x o → ⊥
   unfolding find_payload
   none_found h = (not_found x o 0 rows FindError.NoSuchOrdinal h).1
 
-  found_none : ((k : ℕ) → Numbered rows k x o → ⊥) → find_payload x o (accepted n c) ≡ FindAnswer.Refused FindError.NoSuchOrdinal
+  found_none : ((k : ℕ) → Numbered rows k x o → ⊥) → find_payload x o (accepted n c) ≡ Err FindError.NoSuchOrdinal
   unfolding find_payload
   found_none f = go (find_in x o 0 rows) refl
     where
-      go : (r : FindAnswer) → find_in x o 0 rows ≡ r → find_in x o 0 rows ≡ FindAnswer.Refused FindError.NoSuchOrdinal
-      go (FindAnswer.Place p) h = let (i, e, b) = found-row x o 0 rows p h in absurd (f i b)
-      go (FindAnswer.Refused why) h = h ∙ ap FindAnswer.Refused (not_found x o 0 rows why h).0
+      go : (r : Result ℕ FindError) → find_in x o 0 rows ≡ r → find_in x o 0 rows ≡ Err FindError.NoSuchOrdinal
+      go (Ok p) h = let (i, e, b) = found-row x o 0 rows p h in absurd (f i b)
+      go (Err why) h = h ∙ ap Err (not_found x o 0 rows why h).0
 
 pub finds-exactly : FindsExactly
 finds-exactly = record {

@@ -10,11 +10,12 @@ use lib.Dec.{T, leb, ltb, eqb, leb→le, ltb→lt, lt→ltb, T_not, not_T, eqb_r
 use lib.Pow.{high, pow_pos}
 use lib.Pow.{split as pow-split}
 use borrow.Author.Tests.{le-leb}
-use Rattle.std.specs.Prelude.{if◌then◌else◌}
+use Rattle.std.specs.Prelude.{if◌then◌else◌, Result, Ok, Err}
 use Rattle.openjoc_bitio.specs.Bits.{bit_at, bits_value, number_bits}
 use Rattle.openjoc_bitio.specs.Cursor.{bit_length, bits_remaining, read_bits}
+use Rattle.openjoc_bitio.specs.declared.BitCursor.{BitCursor}
+use Rattle.openjoc_bitio.specs.declared.BitError.{BitError}
 use Rattle.openjoc_bitio.specs.declared.BitError.TheVariants.{InvalidWidth, EndOfInput}
-use Rattle.openjoc_bitio.specs.declared.BitsAnswer.TheVariants.{Value, Refused}
 use Rattle.openjoc_bitio.proofs.Bits.{bit-range, value_none, value-first, value-range, number-high, number-low}
 use Rattle.emdf_format.specs.declared.EmdfError.{EmdfError}
 use Rattle.emdf_format.specs.Syntax.{◌⨟◌}
@@ -325,7 +326,7 @@ unfolding bits from_bits read_bits
 bits-sound w {s} {e} {p} {q} {a} h = go (leb w 64) (leb w (bits_remaining s (cursor_at e p))) refl h
   where
     go : (t u : Bool) → leb w (bits_remaining s (cursor_at e p)) ≡ u
-        → from_bits p (if t then (if u then Value (bits_value s p w) (cursor_at e (p + w)) else Refused (EndOfInput w (bits_remaining s (cursor_at e p)))) else Refused (InvalidWidth w)) ≡ got a q
+        → from_bits p (if◌then◌else◌ {A = Result (ℕ × BitCursor) BitError} t (if u then Ok (bits_value s p w, cursor_at e (p + w)) else Err (EndOfInput w (bits_remaining s (cursor_at e p)))) (Err (InvalidWidth w))) ≡ got a q
         → Stands s e p q (number_bits w a) × T (ltb a (2 ^ w))
     go true true l f =
         let k : w ≤ bit_limit s e - p = rw remaining-limit at (leb→le w (bits_remaining s (cursor_at e p)) (T_of l)) in

@@ -4,18 +4,16 @@ use mathlib.Core.Bool.{true, false}
 use mathlib.Core.List.{List, [], ◌∷◌, ◌++◌}
 use Prim.Native.Nat.{ℕ, ◌-◌, ◌*◌, ◌^◌}
 use lib.ListN.{length}
+use Rattle.std.specs.Prelude.{Option, Some, None, Ok, Err}
 use Rattle.openjoc_bitio.specs.Bits.{bit_at, bits_value, number_bits}
 use Rattle.openjoc_bitio.specs.Cursor.{bit_length, bits_remaining, read_bits}
 use Rattle.openjoc_bitio.specs.declared.BitError.TheVariants.{EndOfInput}
-use Rattle.emdf_format.specs.declared.Optional.{Optional}
-use Rattle.emdf_format.specs.declared.Optional.TheVariants.{Absent, Present}
 use Rattle.emdf_format.specs.declared.TruncatedPart.TheVariants as TruncatedPart
 use Rattle.emdf_format.specs.declared.EmdfError.TheVariants.{TruncatedContainer, Bit, ExcessPadding}
 use Rattle.emdf_format.specs.declared.EmdfPayloadConfig.{EmdfPayloadConfig}
 use Rattle.emdf_format.specs.declared.Refusal.TheVariants.{One, Two}
 use Rattle.emdf_format.specs.declared.JocValidationProfile.TheVariants.{EtsiStrict, ObservedVendorCompat}
 use Rattle.emdf_format.specs.declared.EditError.TheVariants.{DestinationTooShort}
-use Rattle.emdf_format.specs.declared.EditAnswer.TheVariants.{Written, Refused}
 use Rattle.emdf_format.specs.Syntax.{◌⨟◌, groups_before, variable_field, count_before, groups, escape, extended_field, extended_groups, octet_bits, flagged_field, present_field}
 use Rattle.emdf_format.specs.Contents.{◌&◌, iff, is_present, is_one, when_present, up_to, has_aligned, has_priority, present_as_ruled, writable_config, writable_payload, writable_payloads, protection_length, protection_code, codable, writable, extension_bits, flagged_bits, present_bits, needed_config, needed_payload, needed_payloads, needed_bits, declared, sample_offset_bits, codec_data_bits, config_bits, payload_bits, payloads_bits, protection_bits, container_bits, carrier_bits, bits_number, bytes_of, carrier}
 use Rattle.emdf_format.specs.Reader.{and_then, ◌>>=◌, give, ask, choose, position, remaining, from_bits, bits, groups_from, variable_bits, extended_value, octets, present, flagged}
@@ -40,16 +38,16 @@ emptied = 0x58 ∷ 0x38 ∷ 0x00 ∷ 0x06 ∷ 0x00 ∷ 0x42 ∷ 0x00 ∷ 0x02 �
 
 abbrev discarded : EmdfPayloadConfig
 discarded = record {
-  sample_offset = Absent;
-  duration = Absent;
-  group_id = Absent;
+  sample_offset = None;
+  duration = None;
+  group_id = None;
   codec_data_present = 0;
   discard_unknown_payload = 1;
-  payload_frame_aligned = Absent;
-  create_duplicate = Absent;
-  remove_duplicate = Absent;
-  priority = Absent;
-  processing_allowed = Absent;
+  payload_frame_aligned = None;
+  create_duplicate = None;
+  remove_duplicate = None;
+  priority = None;
+  processing_allowed = None;
 }
 
 abbrev in_a : Container
@@ -75,10 +73,10 @@ pub record Starred : Type 0 where
   pub B-reads : reading B ≡ accepted 11 in_b
   pub B-written : carrier (contents_of in_b) ≡ B
   pub B-padding : 8 * declared (contents_of in_b) - length (container_bits (contents_of in_b)) ≡ 7
-  pub drop-answers : (edited (drop_edit 0) B eight).answer ≡ Written (record { 0 = 7 })
+  pub drop-answers : (edited (drop_edit 0) B eight).answer ≡ Ok (record { 0 = 7 })
   pub drop-writes : (edited (drop_edit 0) B eight).destination ≡ dropped ++ 9 ∷ []
-  pub drop-wants-room : (edited (drop_edit 0) B (9 ∷ [])).answer ≡ Refused (DestinationTooShort (record { 0 = 7 }))
-  pub body-answers : (edited (body_edit 0 []) B eleven).answer ≡ Written (record { 0 = 10 })
+  pub drop-wants-room : (edited (drop_edit 0) B (9 ∷ [])).answer ≡ Err (DestinationTooShort (record { 0 = 7 }))
+  pub body-answers : (edited (body_edit 0 []) B eleven).answer ≡ Ok (record { 0 = 10 })
   pub body-writes : (edited (body_edit 0 []) B eleven).destination ≡ emptied ++ 9 ∷ []
   pub ten-left : reading (0x58 ∷ 0x38 ∷ 0x00 ∷ 0x04 ∷ 0x00 ∷ 0x12 ∷ 0x94 ∷ 0x00 ∷ []) ≡ refusal (ExcessPadding 10)
   pub ten-left-refusal : refusal_of (ExcessPadding 10) ≡ One 11 10
@@ -130,33 +128,33 @@ starred = record {
 -- ---- mistakes at hand, as examples that tell them from what is right
 
 -- settings that meet table 56, but for the group id
-abbrev joined : Optional → EmdfPayloadConfig
+abbrev joined : Option ℕ → EmdfPayloadConfig
 joined group = record {
-  sample_offset = Absent;
-  duration = Absent;
+  sample_offset = None;
+  duration = None;
   group_id = group;
   codec_data_present = 1;
   discard_unknown_payload = 0;
-  payload_frame_aligned = Present 1;
-  create_duplicate = Present 0;
-  remove_duplicate = Present 0;
-  priority = Present 0;
-  processing_allowed = Present 0;
+  payload_frame_aligned = Some 1;
+  create_duplicate = Some 0;
+  remove_duplicate = Some 0;
+  priority = Some 0;
+  processing_allowed = Some 0;
 }
 
 -- settings that compat lets pass on OAMD alone
 abbrev unaligned : EmdfPayloadConfig
 unaligned = record {
-  sample_offset = Absent;
-  duration = Absent;
-  group_id = Present 5;
+  sample_offset = None;
+  duration = None;
+  group_id = Some 5;
   codec_data_present = 0;
   discard_unknown_payload = 0;
-  payload_frame_aligned = Present 0;
-  create_duplicate = Absent;
-  remove_duplicate = Absent;
-  priority = Absent;
-  processing_allowed = Absent;
+  payload_frame_aligned = Some 0;
+  create_duplicate = None;
+  remove_duplicate = None;
+  priority = None;
+  processing_allowed = None;
 }
 
 pub record Mistakes : Type 0 where
@@ -167,14 +165,14 @@ pub record Mistakes : Type 0 where
   -- an escape adds to its base: key id 7 is 111 000 0
   pub escape-with-base : reading (0x58 ∷ 0x38 ∷ 0x00 ∷ 0x04 ∷ 0x38 ∷ 0x01 ∷ 0x29 ∷ 0x40 ∷ []) ≡ accepted 8 (record { key-id = 7; found = []; primary = 0xa5 ∷ []; secondary = [] })
   -- two absent group ids don't differ; one beside a present one is missed, and differs
-  pub both-absent : ones (deviations (joined Absent) (joined Absent)) ≡ 2
-  pub joc-absent : ones (deviations (joined (Present 5)) (joined Absent)) ≡ 2
-  pub unequal : word (deviations (joined (Present 5)) (joined (Present 6))) ≡ 2 ^ 20
-  pub equal : ones (deviations (joined (Present 5)) (joined (Present 5))) ≡ 0
+  pub both-absent : ones (deviations (joined None) (joined None)) ≡ 2
+  pub joc-absent : ones (deviations (joined (Some 5)) (joined None)) ≡ 2
+  pub unequal : word (deviations (joined (Some 5)) (joined (Some 6))) ≡ 2 ^ 20
+  pub equal : ones (deviations (joined (Some 5)) (joined (Some 5))) ≡ 0
   -- compat goes by values, and by the payload
-  pub oamd-unaligned : meets_profile ObservedVendorCompat unaligned (joined (Present 5)) ≡ true
-  pub joc-unaligned : meets_profile ObservedVendorCompat (joined (Present 5)) unaligned ≡ false
-  pub not-strict : meets_profile EtsiStrict unaligned (joined (Present 5)) ≡ false
+  pub oamd-unaligned : meets_profile ObservedVendorCompat unaligned (joined (Some 5)) ≡ true
+  pub joc-unaligned : meets_profile ObservedVendorCompat (joined (Some 5)) unaligned ≡ false
+  pub not-strict : meets_profile EtsiStrict unaligned (joined (Some 5)) ≡ false
 
 pub mistakes : Mistakes
 unfolding bit_at bits_value number_bits bit_length bits_remaining read_bits ◌⨟◌ groups_before variable_field count_before groups escape extended_field extended_groups octet_bits flagged_field present_field ◌&◌ iff is_present is_one when_present up_to has_aligned has_priority present_as_ruled writable_config writable_payload writable_payloads protection_length protection_code codable writable extension_bits flagged_bits present_bits needed_config needed_payload needed_payloads needed_bits declared sample_offset_bits codec_data_bits config_bits payload_bits payloads_bits protection_bits container_bits carrier_bits bits_number bytes_of carrier and_then ◌>>=◌ give ask choose position remaining from_bits bits groups_from variable_bits extended_value octets present flagged reserved sample_offset_of codec_data config_controls payload_config payload_after payloads padding container_end container consumed reading payloads_of differ meets marks deviates table56 deviations word ones passes allows all_pass meets_profile

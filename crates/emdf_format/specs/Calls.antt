@@ -1,9 +1,11 @@
 -- What the calls on a carrier answer: records, class, bodies. Assumes nothing.
-use Rattle.std.specs.Prelude.{◌≡◌, Bool, ◌||◌, List, [], ◌∷◌, ◌++◌, ℕ, zero, suc, ◌+◌, ◌*◌, ◌/◌, ◌%◌, length, take, drop, leb, eqb, if◌then◌else◌}
+use Rattle.std.specs.Prelude.{◌≡◌, Bool, ◌||◌, List, [], ◌∷◌, ◌++◌, ℕ, zero, suc, ◌+◌, ◌*◌, ◌/◌, ◌%◌, length, take, drop, leb, eqb, if◌then◌else◌, Result, Ok, Err}
 use Rattle.std.proofs.Math.Option.{Option, none, some}
 use Rattle.std.proofs.Math.ListN.{get_elem?}
+use Rattle.openjoc_bitio.specs.declared.ByteCount.{ByteCount}
+use Rattle.openjoc_bitio.specs.declared.BitOffset.{BitOffset}
 use Rattle.openjoc_bitio.specs.Bits.{bits_value}
-use Rattle.emdf_format.specs.Types.{EmdfError, RecordsError, BodyError, BodyAnswer, PayloadRecord, PayloadRow}
+use Rattle.emdf_format.specs.Types.{EmdfError, RecordsError, BodyError, PayloadRecord, PayloadRow}
 use Rattle.emdf_format.specs.Syntax.{syncword}
 use Rattle.emdf_format.specs.Contents.{◌&◌}
 use Rattle.emdf_format.specs.Reading.{Found, Container, Reading, accepted, refusal, reading}
@@ -71,16 +73,16 @@ BodiesAtSpans s (x ∷ xs) =
     × BodiesAtSpans s xs
 
 -- a body that starts on a byte stays where it is; another one wants room in the scratch
-unfoldable pub found_moved : Option Found → ℕ → BodyAnswer
-found_moved none room = BodyAnswer.Refused BodyError.NoSuchPayload
+unfoldable pub found_moved : Option Found → ℕ → Result (BitOffset × ByteCount) BodyError
+found_moved none room = Err BodyError.NoSuchPayload
 found_moved (some x) room =
     if starts_on_byte x || leb (length x.body) room
-    then BodyAnswer.Body (record { 0 = body_start x }) (record { 0 = length x.body })
-    else BodyAnswer.Refused (BodyError.ScratchTooShort (record { 0 = length x.body }))
+    then Ok (record { 0 = body_start x }, record { 0 = length x.body })
+    else Err (BodyError.ScratchTooShort (record { 0 = length x.body }))
 
-unfoldable pub move_body : Reading → ℕ → ℕ → BodyAnswer
+unfoldable pub move_body : Reading → ℕ → ℕ → Result (BitOffset × ByteCount) BodyError
 move_body (accepted n c) k room = found_moved (get_elem? c.found k) room
-move_body (refusal why) k room = BodyAnswer.Refused (BodyError.Emdf why)
+move_body (refusal why) k room = Err (BodyError.Emdf why)
 
 unfoldable pub found_at : Reading → ℕ → Option Found
 found_at (accepted n c) k = get_elem? c.found k
@@ -95,7 +97,7 @@ scratch_after (some x) scratch =
     else (if leb (length x.body) (length scratch) then x.body ++ drop (length x.body) scratch else scratch)
 
 -- what the moving call gives: its answer, and its scratch at exit
-abbrev pub MovesBody : List ℕ → ℕ → List ℕ → BodyAnswer → List ℕ → Type 0
+abbrev pub MovesBody : List ℕ → ℕ → List ℕ → Result (BitOffset × ByteCount) BodyError → List ℕ → Type 0
 MovesBody s k scratch answer exit =
     (answer ≡ move_body (reading s) k (length scratch)) × (exit ≡ scratch_after (found_at (reading s) k) scratch)
 

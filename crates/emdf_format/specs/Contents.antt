@@ -1,8 +1,7 @@
 -- Contents of a container: which are writable, how many bits they need, and the carrier that they are written as. Assumes nothing.
-use Rattle.std.specs.Prelude.{Bool, true, false, not, ◌||◌, List, [], ◌∷◌, ℕ, zero, suc, ◌+◌, ◌-◌, ◌*◌, ◌/◌, ◌^◌, length, take, drop, leb, ltb, eqb, if◌then◌else◌}
+use Rattle.std.specs.Prelude.{Bool, true, false, not, ◌||◌, List, [], ◌∷◌, ℕ, zero, suc, ◌+◌, ◌-◌, ◌*◌, ◌/◌, ◌^◌, length, take, drop, leb, ltb, eqb, if◌then◌else◌, Option, Some, None}
 use Rattle.openjoc_bitio.specs.Bits.{number_bits}
-use Rattle.emdf_format.specs.Types.{Optional, EmdfPayloadConfig}
-use Rattle.emdf_format.specs.declared.Optional.TheVariants.{Absent, Present}
+use Rattle.emdf_format.specs.Types.{EmdfPayloadConfig}
 use Rattle.emdf_format.specs.Syntax.{syncword, ◌⨟◌, variable_field, groups, extended_field, extended_groups, octet_bits, flagged_field, present_field}
 
 -- ---- contents: the scope, 'Contents and edits'
@@ -31,18 +30,18 @@ unfoldable pub iff : Bool → Bool → Bool
 iff true b = b
 iff false b = not b
 
-unfoldable pub is_present : Optional → Bool
-is_present Absent = false
-is_present (Present v) = true
+unfoldable pub is_present : Option ℕ → Bool
+is_present None = false
+is_present (Some v) = true
 
-unfoldable pub is_one : Optional → Bool
-is_one Absent = false
-is_one (Present v) = eqb v 1
+unfoldable pub is_one : Option ℕ → Bool
+is_one None = false
+is_one (Some v) = eqb v 1
 
 -- what is asked of a value, where there is one
-unfoldable pub when_present : (ℕ → Bool) → Optional → Bool
-when_present test Absent = true
-when_present test (Present v) = test v
+unfoldable pub when_present : (ℕ → Bool) → Option ℕ → Bool
+when_present test None = true
+when_present test (Some v) = test v
 
 unfoldable pub up_to : ℕ → ℕ → Bool
 up_to n v = leb v n
@@ -50,15 +49,15 @@ up_to n v = leb v n
 -- ---- which settings are present, as the original has it
 
 -- payload_frame_aligned: discard is 0, and there is no sample offset
-unfoldable pub has_aligned : ℕ → Optional → Bool
+unfoldable pub has_aligned : ℕ → Option ℕ → Bool
 has_aligned discard sample-offset = eqb discard 0 & not (is_present sample-offset)
 
 -- priority and processing: discard is 0, and there is a sample offset, or the payload is frame aligned
-unfoldable pub has_priority : ℕ → Optional → Optional → Bool
+unfoldable pub has_priority : ℕ → Option ℕ → Option ℕ → Bool
 has_priority discard sample-offset aligned = eqb discard 0 & (is_present sample-offset || is_one aligned)
 
 -- present exactly where the rule says so, and then at most n
-unfoldable pub present_as_ruled : Bool → ℕ → Optional → Bool
+unfoldable pub present_as_ruled : Bool → ℕ → Option ℕ → Bool
 present_as_ruled there n o = when_present (up_to n) o & iff (is_present o) there
 
 -- ---- writable
@@ -110,13 +109,13 @@ writable c =
 unfoldable pub extension_bits : ℕ → ℕ → ℕ
 extension_bits w v = (w + 1) * extended_groups w v
 
-unfoldable pub flagged_bits : (ℕ → ℕ) → Optional → ℕ
-flagged_bits field Absent = 1
-flagged_bits field (Present v) = 1 + field v
+unfoldable pub flagged_bits : (ℕ → ℕ) → Option ℕ → ℕ
+flagged_bits field None = 1
+flagged_bits field (Some v) = 1 + field v
 
-unfoldable pub present_bits : ℕ → Optional → ℕ
-present_bits w Absent = 0
-present_bits w (Present v) = w
+unfoldable pub present_bits : ℕ → Option ℕ → ℕ
+present_bits w None = 0
+present_bits w (Some v) = w
 
 unfoldable pub needed_config : EmdfPayloadConfig → ℕ
 needed_config t =

@@ -1,11 +1,10 @@
 -- The six edits: on plain contents, on carriers, and lists of calls; and what is claimed of whole lists. Assumes nothing.
-use Rattle.std.specs.Prelude.{◌≡◌, Bool, true, false, List, [], ◌∷◌, ◌++◌, ◌↔◌, ℕ, zero, suc, ◌+◌, ◌<◌, ◌≤◌, length, get_or, take, drop, replicate, leb, ltb, eqb, if◌then◌else◌}
+use Rattle.std.specs.Prelude.{◌≡◌, Bool, true, false, List, [], ◌∷◌, ◌++◌, ◌↔◌, ℕ, zero, suc, ◌+◌, ◌<◌, ◌≤◌, length, get_or, take, drop, replicate, leb, ltb, eqb, if◌then◌else◌, Result, Ok, Err}
 use Rattle.std.proofs.Math.Option.{some}
 use Rattle.std.proofs.Math.ListN.{get_elem?}
 use Rattle.openjoc_bitio.specs.declared.ByteCount.{ByteCount}
-use Rattle.emdf_format.specs.Types.{EmdfPayloadConfig, PayloadRow, EditError, EditAnswer}
+use Rattle.emdf_format.specs.Types.{EmdfPayloadConfig, PayloadRow, EditError}
 use Rattle.emdf_format.specs.declared.EditError.TheVariants.{Emdf, TrailingData, NoSuchPlace, NotWritable, TooLong, DestinationTooShort}
-use Rattle.emdf_format.specs.declared.EditAnswer.TheVariants.{Written, Refused}
 use Rattle.emdf_format.specs.Syntax.{most_declared}
 use Rattle.emdf_format.specs.Contents.{Payload, Contents, writable, declared, carrier}
 use Rattle.emdf_format.specs.Reading.{Container, Reading, accepted, refusal, reading, contents_of}
@@ -102,9 +101,9 @@ step_to room c =
 unfoldable pub step : Edit → ℕ → Contents → Stepped
 step e room c = if place_exists e (length c.payloads) then step_to room (change e c) else unchanged NoSuchPlace
 
-unfoldable pub step_answer : Stepped → EditAnswer
-step_answer (changed c) = Written (record { 0 = carrier_length c })
-step_answer (unchanged why) = Refused why
+unfoldable pub step_answer : Stepped → Result ByteCount EditError
+step_answer (changed c) = Ok (record { 0 = carrier_length c })
+step_answer (unchanged why) = Err why
 
 unfoldable pub step_contents : Stepped → Contents → Contents
 step_contents (changed c) before = c
@@ -113,7 +112,7 @@ step_contents (unchanged why) before = before
 -- ---- on carriers: what each of the six calls answers, and what it leaves in its destination
 
 pub record Edited : Type 0 where
-  pub answer : EditAnswer
+  pub answer : Result ByteCount EditError
   pub destination : List ℕ
 
 unfoldable pub written : Stepped → List ℕ → List ℕ
@@ -131,11 +130,11 @@ edited e src dst =
     record { answer = step_answer o; destination = written o dst }
 
 -- what a call gives: its answer, and its destination at exit
-abbrev pub Gives : Edited → EditAnswer → List ℕ → Type 0
+abbrev pub Gives : Edited → Result ByteCount EditError → List ℕ → Type 0
 Gives e answer exit = (answer ≡ e.answer) × (exit ≡ e.destination)
 
 -- what each of the six calls promises
-abbrev pub Called : Edit → List ℕ → List ℕ → EditAnswer → List ℕ → Type 0
+abbrev pub Called : Edit → List ℕ → List ℕ → Result ByteCount EditError → List ℕ → Type 0
 Called e src dst = Gives (edited e src dst)
 
 -- the blank carrier: 17 and 19
@@ -155,13 +154,13 @@ pub record Call : Type 0 where
   pub destination : List ℕ
 
 -- the next call's source: the carrier in the destination, or the same one
-unfoldable pub next_source : List ℕ → EditAnswer → List ℕ → List ℕ
-next_source src (Written n) dst = take n.0 dst
-next_source src (Refused why) dst = src
+unfoldable pub next_source : List ℕ → Result ByteCount EditError → List ℕ → List ℕ
+next_source src (Ok n) dst = take n.0 dst
+next_source src (Err why) dst = src
 
 -- what a call answers, and the carrier that it leaves
 pub record Done : Type 0 where
-  pub answer : EditAnswer
+  pub answer : Result ByteCount EditError
   pub left : List ℕ
 
 unfoldable pub done : List ℕ → Call → Done
@@ -173,7 +172,7 @@ unfoldable pub leaves : List ℕ → List Call → List ℕ
 leaves src [] = src
 leaves src (t ∷ ts) = leaves (done src t).left ts
 
-unfoldable pub answers : List ℕ → List Call → List EditAnswer
+unfoldable pub answers : List ℕ → List Call → List (Result ByteCount EditError)
 answers src [] = []
 answers src (t ∷ ts) = (done src t).answer ∷ answers (done src t).left ts
 
@@ -192,7 +191,7 @@ events (t ∷ ts) = event_of t ∷ events ts
 
 -- what an event answers, and the contents that it leaves
 pub record Outcome : Type 0 where
-  pub answer : EditAnswer
+  pub answer : Result ByteCount EditError
   pub contents : Contents
 
 unfoldable pub outcome : Contents → Event → Outcome
@@ -204,7 +203,7 @@ unfoldable pub plain_contents : Contents → List Event → Contents
 plain_contents c [] = c
 plain_contents c (e ∷ es) = plain_contents (outcome c e).contents es
 
-unfoldable pub plain_answers : Contents → List Event → List EditAnswer
+unfoldable pub plain_answers : Contents → List Event → List (Result ByteCount EditError)
 plain_answers c [] = []
 plain_answers c (e ∷ es) = (outcome c e).answer ∷ plain_answers (outcome c e).contents es
 
@@ -264,7 +263,7 @@ pub record ReadsAs (s : List ℕ) (c : Contents) : Type 0 where
 
 -- an accepted blank reads as its contents
 pub record BlankReads : Type 0 where
-  pub claim : (i : ℕ) (a b dst : List ℕ) (n : ByteCount) → Bytes a → Bytes b → (blank i a b dst).answer ≡ Written n
+  pub claim : (i : ℕ) (a b dst : List ℕ) (n : ByteCount) → Bytes a → Bytes b → (blank i a b dst).answer ≡ Ok n
       → ReadsAs (take n.0 (blank i a b dst).destination) (blank_contents i a b)
 
 -- a list of calls from one carrier: each answer is the plain one, and what is left reads as the plain contents

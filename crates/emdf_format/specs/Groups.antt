@@ -1,7 +1,6 @@
 -- How many groups the variable fields of contents have, and the largest number of them. Assumes nothing.
-use Rattle.std.specs.Prelude.{List, [], ◌∷◌, ◌↔◌, ◌≡◌, ℕ, ◌+◌, ◌*◌, ◌≤◌, ◌<◌, length, ltb, if◌then◌else◌}
-use Rattle.emdf_format.specs.Types.{Optional, EmdfPayloadConfig}
-use Rattle.emdf_format.specs.declared.Optional.TheVariants.{Absent, Present}
+use Rattle.std.specs.Prelude.{List, [], ◌∷◌, ◌↔◌, ◌≡◌, ℕ, ◌+◌, ◌*◌, ◌≤◌, ◌<◌, length, ltb, if◌then◌else◌, Option, Some, None}
+use Rattle.emdf_format.specs.Types.{EmdfPayloadConfig}
 use Rattle.emdf_format.specs.Syntax.{groups, capacity, extended_groups}
 use Rattle.emdf_format.specs.Contents.{Payload, Contents}
 use Rattle.emdf_format.specs.Reader.{got, variable_bits}
@@ -10,9 +9,9 @@ use Rattle.emdf_format.specs.Reading.{Container, accepted, reading, contents_of}
 abbrev pub larger : ℕ → ℕ → ℕ
 larger a b = if ltb a b then b else a
 
-unfoldable pub optional_groups : ℕ → Optional → ℕ
-optional_groups w Absent = 0
-optional_groups w (Present v) = groups w v
+unfoldable pub optional_groups : ℕ → Option ℕ → ℕ
+optional_groups w None = 0
+optional_groups w (Some v) = groups w v
 
 -- of settings: the duration and the group id
 abbrev pub config_groups : EmdfPayloadConfig → ℕ

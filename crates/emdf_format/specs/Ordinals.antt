@@ -1,8 +1,9 @@
 -- Which of the payloads of its id a payload is: its ordinal, from 1 in the carrier's order. Assumes nothing.
-use Rattle.std.specs.Prelude.{◌≡◌, List, [], ◌∷◌, ◌↔◌, ℕ, suc, ◌≤◌, ◌<◌, get_or, take, eqb, if◌then◌else◌}
+use Rattle.std.specs.Prelude.{◌≡◌, List, [], ◌∷◌, ◌↔◌, ℕ, suc, ◌≤◌, ◌<◌, get_or, take, eqb, if◌then◌else◌, Result, Ok, Err}
 use Rattle.std.proofs.Math.Option.{some}
 use Rattle.std.proofs.Math.ListN.{get_elem?}
-use Rattle.emdf_format.specs.Types.{PayloadRow, FindAnswer}
+use Rattle.emdf_format.specs.declared.FindError.{FindError}
+use Rattle.emdf_format.specs.Types.{PayloadRow}
 use Rattle.emdf_format.specs.declared.FindError.TheVariants as FindError
 use Rattle.emdf_format.specs.Contents.{Payload, ◌&◌}
 use Rattle.emdf_format.specs.Reading.{Found, Container, Reading, accepted, refusal, payloads_of}
@@ -54,15 +55,15 @@ pub record OrdinalsInOrder (rs : List PayloadRow) (n : ℕ) : Type 0 where
 -- ---- a payload by its id and ordinal
 
 -- the place, where the first of these rows is at place k
-unfoldable pub find_in : ℕ → ℕ → ℕ → List PayloadRow → FindAnswer
-find_in x o k [] = FindAnswer.Refused FindError.NoSuchOrdinal
-find_in x o k (r ∷ rs) = if eqb r.payload.id x & eqb r.ordinal o then FindAnswer.Place k else find_in x o (suc k) rs
+unfoldable pub find_in : ℕ → ℕ → ℕ → List PayloadRow → Result ℕ FindError
+find_in x o k [] = Err FindError.NoSuchOrdinal
+find_in x o k (r ∷ rs) = if eqb r.payload.id x & eqb r.ordinal o then Ok k else find_in x o (suc k) rs
 
-unfoldable pub find_payload : ℕ → ℕ → Reading → FindAnswer
+unfoldable pub find_payload : ℕ → ℕ → Reading → Result ℕ FindError
 find_payload x o (accepted n c) = find_in x o 0 (rows_of c.found)
-find_payload x o (refusal why) = FindAnswer.Refused (FindError.Emdf why)
+find_payload x o (refusal why) = Err (FindError.Emdf why)
 
 -- of an accepted carrier: a place is answered exactly where its row has that id and ordinal, and 24 exactly where no row has
 pub record FindsExactly : Type 0 where
-  pub found : (n : ℕ) (c : Container) (x o k : ℕ) → (find_payload x o (accepted n c) ≡ FindAnswer.Place k) ↔ Numbered (rows_of c.found) k x o
-  pub missing : (n : ℕ) (c : Container) (x o : ℕ) → (find_payload x o (accepted n c) ≡ FindAnswer.Refused FindError.NoSuchOrdinal) ↔ ((k : ℕ) → Numbered (rows_of c.found) k x o → ⊥)
+  pub found : (n : ℕ) (c : Container) (x o k : ℕ) → (find_payload x o (accepted n c) ≡ Ok k) ↔ Numbered (rows_of c.found) k x o
+  pub missing : (n : ℕ) (c : Container) (x o : ℕ) → (find_payload x o (accepted n c) ≡ Err FindError.NoSuchOrdinal) ↔ ((k : ℕ) → Numbered (rows_of c.found) k x o → ⊥)

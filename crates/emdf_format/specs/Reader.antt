@@ -1,12 +1,10 @@
 -- Readers: what is found from position p of bytes s, up to the end e, or why it is refused; and the fields of Annex H as readers,
 -- each question in its place. Assumes nothing.
-use Rattle.std.specs.Prelude.{Bool, true, false, List, [], ◌∷◌, ℕ, zero, suc, ◌+◌, ◌*◌, ◌^◌, leb, ltb, eqb}
+use Rattle.std.specs.Prelude.{Bool, true, false, List, [], ◌∷◌, ℕ, zero, suc, ◌+◌, ◌*◌, ◌^◌, leb, ltb, eqb, Option, Some, None, Result, Ok, Err}
+use Rattle.openjoc_bitio.specs.declared.BitError.{BitError}
 use Rattle.openjoc_bitio.specs.Cursor.{bits_remaining, read_bits}
 use Rattle.openjoc_bitio.specs.declared.BitCursor.{BitCursor}
-use Rattle.openjoc_bitio.specs.declared.BitsAnswer.{BitsAnswer}
-use Rattle.openjoc_bitio.specs.declared.BitsAnswer.TheVariants.{Value, Refused}
-use Rattle.emdf_format.specs.Types.{Optional, EmdfError}
-use Rattle.emdf_format.specs.declared.Optional.TheVariants.{Absent, Present}
+use Rattle.emdf_format.specs.Types.{EmdfError}
 use Rattle.emdf_format.specs.declared.EmdfError.TheVariants.{Bit, InvalidVariableBits, VariableBitsGroupLimit, ValueOverflow}
 use Rattle.emdf_format.specs.Syntax.{escape}
 use Rattle.emdf_format.specs.Contents.{◌&◌}
@@ -49,9 +47,9 @@ unfoldable pub remaining : Reader ℕ
 remaining s e p = got (bits_remaining s (cursor_at e p)) p
 
 -- w bits as a number: questions 3 and 4
-unfoldable pub from_bits : ℕ → BitsAnswer → Read ℕ
-from_bits p (Value v c) = got v c.position
-from_bits p (Refused why) = refused (Bit why) p
+unfoldable pub from_bits : ℕ → Result (ℕ × BitCursor) BitError → Read ℕ
+from_bits p (Ok (v, c)) = got v c.position
+from_bits p (Err why) = refused (Bit why) p
 
 unfoldable pub bits : ℕ → Reader ℕ
 bits w s e p = from_bits p (read_bits s (cursor_at e p) w)
@@ -97,11 +95,11 @@ octets (suc n) = do
   give (b ∷ bs)
 
 -- the field, where the test says that it is there
-unfoldable pub present : Bool → Reader ℕ → Reader Optional
-present there field = choose there (do v ← field; give (Present v)) (give Absent)
+unfoldable pub present : Bool → Reader ℕ → Reader (Option ℕ)
+present there field = choose there (do v ← field; give (Some v)) (give None)
 
 -- a flag and, where it is set, the field
-unfoldable pub flagged : Reader ℕ → Reader Optional
+unfoldable pub flagged : Reader ℕ → Reader (Option ℕ)
 flagged field = do
   flag ← bits 1
   present (eqb flag 1) field

@@ -1,8 +1,8 @@
 -- The reading of a carrier: its fields in order, with the scope's questions 1 to 12 each in its place. Assumes nothing.
-use Rattle.std.specs.Prelude.{false, not, List, [], ◌∷◌, ℕ, zero, suc, ◌+◌, ◌-◌, ◌*◌, length, take, leb, ltb, eqb, if◌then◌else◌}
+use Rattle.std.specs.Prelude.{false, not, List, [], ◌∷◌, ℕ, zero, suc, ◌+◌, ◌-◌, ◌*◌, length, take, leb, ltb, eqb, if◌then◌else◌, Option}
 use Rattle.openjoc_bitio.specs.Bits.{bits_value}
 use Rattle.openjoc_bitio.specs.declared.BitError.TheVariants.{EndOfInput}
-use Rattle.emdf_format.specs.Types.{Optional, EmdfError, EmdfPayloadConfig, EmdfPayloadBitTrace, PayloadRecord}
+use Rattle.emdf_format.specs.Types.{EmdfError, EmdfPayloadConfig, EmdfPayloadBitTrace, PayloadRecord}
 use Rattle.emdf_format.specs.declared.TruncatedPart.TheVariants as TruncatedPart
 use Rattle.emdf_format.specs.declared.EmdfError.TheVariants.{TruncatedContainer, InvalidSyncword, Bit, UnsupportedVersion, NonzeroReservedData, ReservedPrimaryProtectionLength, ExcessPadding, NonzeroPadding}
 use Rattle.emdf_format.specs.Syntax.{syncword}
@@ -30,7 +30,7 @@ codec_data = do
   give flag
 
 -- the settings whose presence depends on discard, on the sample offset and on aligned
-unfoldable pub config_controls : Optional → Optional → Optional → ℕ → ℕ → Reader EmdfPayloadConfig
+unfoldable pub config_controls : Option ℕ → Option ℕ → Option ℕ → ℕ → ℕ → Reader EmdfPayloadConfig
 config_controls sample-offset duration group-id codec discard = do
   aligned ← present (has_aligned discard sample-offset) (bits 1)
   create ← present (is_one aligned) (bits 1)

@@ -1,8 +1,6 @@
 -- The fields of Annex H in the direction of writing, as bits: what a value looks like in a container. Assumes nothing.
-use Rattle.std.specs.Prelude.{List, [], ◌∷◌, ◌++◌, ℕ, zero, suc, ◌+◌, ◌-◌, ◌*◌, ◌/◌, ◌%◌, ◌^◌, ltb, if◌then◌else◌}
+use Rattle.std.specs.Prelude.{List, [], ◌∷◌, ◌++◌, ℕ, zero, suc, ◌+◌, ◌-◌, ◌*◌, ◌/◌, ◌%◌, ◌^◌, ltb, if◌then◌else◌, Option, Some, None}
 use Rattle.openjoc_bitio.specs.Bits.{number_bits}
-use Rattle.emdf_format.specs.Types.{Optional}
-use Rattle.emdf_format.specs.declared.Optional.TheVariants.{Absent, Present}
 
 -- the first 16 bits of a carrier
 abbrev pub syncword : ℕ
@@ -62,11 +60,11 @@ octet_bits [] = []
 octet_bits (b ∷ bs) = number_bits 8 b ⨟ octet_bits bs
 
 -- a flag and, where it is set, the field
-unfoldable pub flagged_field : (ℕ → List ℕ) → Optional → List ℕ
-flagged_field field Absent = 0 ∷ []
-flagged_field field (Present v) = 1 ∷ field v
+unfoldable pub flagged_field : (ℕ → List ℕ) → Option ℕ → List ℕ
+flagged_field field None = 0 ∷ []
+flagged_field field (Some v) = 1 ∷ field v
 
 -- the field, where it is present
-unfoldable pub present_field : (ℕ → List ℕ) → Optional → List ℕ
-present_field field Absent = []
-present_field field (Present v) = field v
+unfoldable pub present_field : (ℕ → List ℕ) → Option ℕ → List ℕ
+present_field field None = []
+present_field field (Some v) = field v

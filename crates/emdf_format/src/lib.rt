@@ -76,26 +76,19 @@ pub struct Figures {
     pub second: u64,
 }
 
-// A setting that may be absent. Any number may stand in it: which are writable is a question.
-#[derive(Clone, Copy)]
-pub enum Optional {
-    Absent,
-    Present(u64),
-}
-
 // The ten settings of a payload, in the order in which they are written.
 #[derive(Clone, Copy)]
 pub struct EmdfPayloadConfig {
-    pub sample_offset: Optional,
-    pub duration: Optional,
-    pub group_id: Optional,
+    pub sample_offset: Option<u64>,
+    pub duration: Option<u64>,
+    pub group_id: Option<u64>,
     pub codec_data_present: u64,
     pub discard_unknown_payload: u64,
-    pub payload_frame_aligned: Optional,
-    pub create_duplicate: Optional,
-    pub remove_duplicate: Optional,
-    pub priority: Optional,
-    pub processing_allowed: Optional,
+    pub payload_frame_aligned: Option<u64>,
+    pub create_duplicate: Option<u64>,
+    pub remove_duplicate: Option<u64>,
+    pub priority: Option<u64>,
+    pub processing_allowed: Option<u64>,
 }
 
 // Where a payload's parts stand, from the carrier's first bit.
@@ -141,25 +134,11 @@ pub enum BodyError {
     ScratchTooShort { needed: ByteCount },
 }
 
-// The move call's answer: the body's first bit in the carrier, and its length.
-#[derive(Clone, Copy)]
-pub enum BodyAnswer {
-    Body(BitOffset, ByteCount),
-    Refused(BodyError),
-}
-
 // Why no payload is found by its id and ordinal.
 #[derive(Clone, Copy)]
 pub enum FindError {
     Emdf(EmdfError),
     NoSuchOrdinal,
-}
-
-// The finding call's answer: the payload's place.
-#[derive(Clone, Copy)]
-pub enum FindAnswer {
-    Place(usize),
-    Refused(FindError),
 }
 
 // The policy of a verdict: tables 55 and 56 as the original has them, or with the deviations that it lets pass.
@@ -189,13 +168,6 @@ pub enum JocProfileValue {
     Absent,
     Present,
     Unsigned(u64),
-}
-
-// The one deviating value of a setting that the compat policy lets pass, if any.
-#[derive(Clone, Copy)]
-pub enum AllowedDeviation {
-    Never,
-    Only(Optional),
 }
 
 // The settings that the profile asks, under the original's names.
@@ -238,12 +210,6 @@ pub struct ValidatedJocProfile {
     pub largest_groups: usize,
 }
 
-#[derive(Clone, Copy)]
-pub enum JocProfileAnswer {
-    Accepted(ValidatedJocProfile),
-    Refused(JocProfileError),
-}
-
 // Why an edit is refused.
 #[derive(Clone, Copy)]
 pub enum EditError {
@@ -253,13 +219,6 @@ pub enum EditError {
     NotWritable,
     TooLong,
     DestinationTooShort { needed: ByteCount },
-}
-
-// An edit's answer: the length of the carrier that it wrote, or why it wrote nothing.
-#[derive(Clone, Copy)]
-pub enum EditAnswer {
-    Written(ByteCount),
-    Refused(EditError),
 }
 
 // Why a recipe of edits is not run.

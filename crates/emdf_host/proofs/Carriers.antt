@@ -6,6 +6,7 @@ use native.Mathlib.Omega.{arith}
 use borrow.Author.Tests.{le-leb, lt-leb}
 use lib.ListN.{length, take}
 use lib.Seq.{sets}
+use Rattle.std.specs.Prelude.{Ok, Err}
 use Rattle.openjoc_bitio.specs.declared.BitCursor.{BitCursor}
 use Rattle.emdf_format.specs.Reading.{Found, reading}
 use Rattle.emdf_format.specs.Ordinals.{rows_of}
@@ -15,7 +16,6 @@ use Rattle.emdf_format.specs.declared.RecordsError.TheVariants.{Emdf, TableTooSh
 use Rattle.openjoc_emdf.specs.Answers.{open_answer}
 use Rattle.emdf_container.specs.Container.{container_of}
 use Rattle.openjoc_emdf.specs.declared.ParsedEmdf.{ParsedEmdf}
-use Rattle.openjoc_emdf.specs.declared.OpenAnswer.TheVariants as OpenAnswer
 use Rattle.emdf_payloads.specs.Payloads.{Listed}
 use Rattle.openjoc_emdf.specs.Answers.{Opened}
 use Rattle.openjoc_emdf.proofs.Opening.{opened, unopened}
@@ -24,7 +24,7 @@ use Rattle.emdf_answers.specs.Replies.{Replies}
 use Rattle.emdf_answers.specs.Carriers.{parsed_words, read_into, read_reply, rows_bytes, rows_after, ReadReplies}
 use Rattle.emdf_rows.proofs.Rows.{rows-after}
 
-module _ (s : List ℕ) {p : ParsedEmdf} {c : BitCursor} (h : open_answer s (reading s) ≡ OpenAnswer.Open p c) where
+module _ (s : List ℕ) {p : ParsedEmdf} {c : BitCursor} (h : open_answer s (reading s) ≡ Ok (p, c)) where
   counted : length (opened s h).container.found ≡ p.container.payloads
   unfolding container_of
   counted = ap (λ (q : ParsedEmdf). q.container.payloads) (opened s h).parsed
@@ -34,12 +34,12 @@ module _ (s : List ℕ) {p : ParsedEmdf} {c : BitCursor} (h : open_answer s (rea
 
 module _ (s table : List ℕ) where
   -- a refusal leaves the table
-  pub refused-carrier : {why : EmdfError} {r : ℕ} {answer : List ℕ} → open_answer s (reading s) ≡ OpenAnswer.Refused why
+  pub refused-carrier : {why : EmdfError} {r : ℕ} {answer : List ℕ} → open_answer s (reading s) ≡ Err why
       → Replies (read_reply (unrecorded (Emdf why))) r answer → ReadReplies (read_into s table) r answer table table
   unfolding read_into in_table rows_after
   refused-carrier h w = rw (unopened s h) (w, refl)
 
-  module _ {p : ParsedEmdf} {c : BitCursor} (h : open_answer s (reading s) ≡ OpenAnswer.Open p c) where
+  module _ {p : ParsedEmdf} {c : BitCursor} (h : open_answer s (reading s) ≡ Ok (p, c)) where
     abbrev n : ℕ
     n = p.bytes_consumed.0
 

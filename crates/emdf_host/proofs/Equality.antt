@@ -6,15 +6,13 @@ use Prim.Native.Nat.{ℕ, ◌^◌, ◌<◌}
 use native.Mathlib.Omega.{arith}
 use lib.ListN.{length}
 use lib.Dec.{eqb, lit<}
-use Rattle.std.specs.Prelude.{if◌then◌else◌}
+use Rattle.std.specs.Prelude.{if◌then◌else◌, Result, Ok, Err}
 use Rattle.openjoc_bitio.specs.declared.ByteCount.{ByteCount}
 use Rattle.openjoc_bitio.specs.declared.BitError.TheVariants.{EndOfInput, InvalidWidth}
 use Rattle.emdf_format.specs.declared.TruncatedPart.TheVariants as TruncatedPart
 use Rattle.emdf_format.specs.declared.EmdfError.TheVariants.{TruncatedContainer, InvalidSyncword, Bit, InvalidVariableBits, VariableBitsGroupLimit, ValueOverflow, UnsupportedVersion, NonzeroReservedData, ReservedPrimaryProtectionLength, ExcessPadding, NonzeroPadding}
 use Rattle.emdf_format.specs.declared.EditError.{EditError}
 use Rattle.emdf_format.specs.declared.EditError.TheVariants.{Emdf, TrailingData, NoSuchPlace, NotWritable, TooLong, DestinationTooShort}
-use Rattle.emdf_format.specs.declared.EditAnswer.{EditAnswer}
-use Rattle.emdf_format.specs.declared.EditAnswer.TheVariants.{Written, Refused}
 use Rattle.emdf_format.specs.Contents.{Contents}
 use Rattle.emdf_format.specs.Refusals.{edit_refusal, figures_of}
 use Rattle.emdf_format.specs.Reading.{Reading, accepted, refusal, reading, contents_of}
@@ -45,11 +43,11 @@ unfolding step_from
 step_small (accepted n k) len e room d h = omega (arith, (changes e room (contents_of k) d (not-trailing (eqb n len) _ h)).small)
 step_small (refusal why) len e room d h = absurd (let z : ◌≡◌ {A = ℕ} 0 1 = cc in omega arith)
 
-written_small : (e : Edit) (src dst : List ℕ) (n : ByteCount) → (edited e src dst).answer ≡ Written n → n.0 < 2 ^ 64
+written_small : (e : Edit) (src dst : List ℕ) (n : ByteCount) → (edited e src dst).answer ≡ Ok n → n.0 < 2 ^ 64
 unfolding edited step_answer
 written_small e src dst n = go (step_from (reading src) (length src) e (length dst)) refl
   where
-    go : (o : Stepped) → step_from (reading src) (length src) e (length dst) ≡ o → step_answer o ≡ Written n → n.0 < 2 ^ 64
+    go : (o : Stepped) → step_from (reading src) (length src) e (length dst) ≡ o → step_answer o ≡ Ok n → n.0 < 2 ^ 64
     go (changed d) f h = let z : record { 0 = carrier_length d } ≡ n = cc in rw (← z) (step_small (reading src) (length src) e (length dst) d f)
     go (unchanged why) f h = absurd (let z : ◌≡◌ {A = ℕ} 0 1 = cc in omega arith)
 
@@ -78,11 +76,11 @@ refused-next (DestinationTooShort n) src answer exit = refl
 
 -- ---- so a host goes on from the carrier that the edit left
 
-next-same : (a : EditAnswer) (src exit : List ℕ) → ((n : ByteCount) → a ≡ Written n → n.0 < 2 ^ 64)
+next-same : (a : Result ByteCount EditError) (src exit : List ℕ) → ((n : ByteCount) → a ≡ Ok n → n.0 < 2 ^ 64)
     → next_carrier src (edited_figures a).number (words ((edited_figures a).first ∷ (edited_figures a).second ∷ [])) exit ≡ next_source src a exit
 unfolding next_carrier next_source edited_figures
-next-same (Written n) src exit small = rw (number_read (n.0 ∷ 0 ∷ []) 0 (lit< tt) (small n refl))
-next-same (Refused why) src exit small = refused-next why src _ exit
+next-same (Ok n) src exit small = rw (number_read (n.0 ∷ 0 ∷ []) 0 (lit< tt) (small n refl))
+next-same (Err why) src exit small = refused-next why src _ exit
 
 -- ---- and from the one that the recipe left: in a buffer it is as short as a carrier
 
@@ -91,15 +89,15 @@ Short Start n = Unit {0}
 Short First n = n < 2 ^ 64
 Short Second n = n < 2 ^ 64
 
-short-next : (p : Holder) (n : ByteCount) (m : ℕ) (answer : EditAnswer) → Short p n.0 → ((k : ByteCount) → answer ≡ Written k → k.0 < 2 ^ 64)
+short-next : (p : Holder) (n : ByteCount) (m : ℕ) (answer : Result ByteCount EditError) → Short p n.0 → ((k : ByteCount) → answer ≡ Ok k → k.0 < 2 ^ 64)
     → let q = counted (record { holder = p; length = n; refused = m }) answer in Short q.holder q.length.0
 unfolding counted Short
-short-next Start n m (Written k) h l = l k refl
-short-next First n m (Written k) h l = l k refl
-short-next Second n m (Written k) h l = l k refl
-short-next Start n m (Refused why) h l = h
-short-next First n m (Refused why) h l = h
-short-next Second n m (Refused why) h l = h
+short-next Start n m (Ok k) h l = l k refl
+short-next First n m (Ok k) h l = l k refl
+short-next Second n m (Ok k) h l = l k refl
+short-next Start n m (Err why) h l = h
+short-next First n m (Err why) h l = h
+short-next Second n m (Err why) h l = h
 
 short-edits : (start : List ℕ) (es : List Edit) (r : Run) → Short r.answer.holder r.answer.length.0
     → let q = (ran_edits start es r).answer in Short q.holder q.length.0

@@ -21,21 +21,23 @@ ghost use Rattle.emdf_recipe_bytes.specs.Recipes.{checked_figures, RecipeReplies
 
 use emdf_format::RecordsError;
 use openjoc_bitio::BitCursor;
-use openjoc_emdf::OpenAnswer;
 
 // The version of what the calls take and answer; include/emdf.h has the same number.
+#[tactic(auto, unfolding(emdf_answers::specs::Form::version))]
 pub fn emdf_version() -> u32
     ensures { result ≡ version }
 {
     5
 }
 
+#[tactic(auto, unfolding(emdf_answers::specs::Bits::new_reply))]
 pub fn emdf_bit_cursor(bytes: &[u8], answer: &mut [u8; 48]) -> u32
     ensures { BitReplies (new_reply bytes.now) result answer.new }
 {
     emdf_rows::put_reply(answer, emdf_answers::accepted_at(BitCursor::new(bytes), 0))
 }
 
+#[tactic(auto, unfolding(emdf_answers::specs::Bits::remaining_reply))]
 pub fn emdf_bits_remaining(bytes: &[u8], position: usize, end: usize, answer: &mut [u8; 48]) -> u32
     ensures { BitReplies (remaining_reply bytes.now position end) result answer.new }
 {
@@ -44,6 +46,7 @@ pub fn emdf_bits_remaining(bytes: &[u8], position: usize, end: usize, answer: &m
     emdf_rows::put_reply(answer, emdf_answers::accepted_at(cursor, remaining as u64))
 }
 
+#[tactic(auto, unfolding(emdf_answers::specs::Bits::read_bits_reply))]
 pub fn emdf_read_bits(
     bytes: &[u8],
     position: usize,
@@ -60,6 +63,7 @@ pub fn emdf_read_bits(
     )
 }
 
+#[tactic(auto, unfolding(emdf_answers::specs::Bits::read_bit_reply))]
 pub fn emdf_read_bit(bytes: &[u8], position: usize, end: usize, answer: &mut [u8; 48]) -> u32
     ensures { BitReplies (read_bit_reply bytes.now position end) result answer.new }
 {
@@ -70,6 +74,7 @@ pub fn emdf_read_bit(bytes: &[u8], position: usize, end: usize, answer: &mut [u8
     )
 }
 
+#[tactic(auto, unfolding(emdf_answers::specs::Bits::take_bits_reply))]
 pub fn emdf_take_bits(
     bytes: &[u8],
     position: usize,
@@ -86,6 +91,7 @@ pub fn emdf_take_bits(
     )
 }
 
+#[tactic(auto, unfolding(emdf_answers::specs::Bits::byte_align_reply))]
 pub fn emdf_byte_align(bytes: &[u8], position: usize, end: usize, answer: &mut [u8; 48]) -> u32
     ensures { BitReplies (byte_align_reply bytes.now position end) result answer.new }
 {
@@ -97,6 +103,7 @@ pub fn emdf_byte_align(bytes: &[u8], position: usize, end: usize, answer: &mut [
 }
 
 // A variable field and its groups, with the cursor after it, also where it is refused.
+#[tactic(auto, unfolding(emdf_answers::specs::Fields::variable_bits_reply))]
 pub fn emdf_variable_bits(
     bytes: &[u8],
     position: usize,
@@ -119,31 +126,26 @@ pub fn emdf_classify(bytes: &[u8], answer: &mut [u8; 88]) -> u32
     ensures { Replies (class_reply (class_answer (classify bytes.now))) result answer.new }
 {
     let class = openjoc_emdf::classify_emdf_carrier(bytes);
-    let values = emdf_answers::class_words(class);
-    emdf_rows::put_words(answer, 0, &values);
-    emdf_answers::class_number(class)
+    let number = emdf_answers::class_number(class);
+    emdf_rows::put_answer(answer, number, &emdf_answers::class_words(class))
 }
 
 // Reads the carrier; a row of 224 bytes a payload goes into the table.
 pub fn emdf_read(bytes: &[u8], table: &mut [u8], answer: &mut [u8; 80]) -> u32
     ensures { ReadReplies (read_into bytes.now table.old) result answer.new table.old table.new }
 {
-    let a = openjoc_emdf::open_carrier(bytes);
-    match a {
-        OpenAnswer::Open(parsed, first) => {
-            let count = parsed.container.payloads;
-            if table.len() / emdf_rows::ROW_BYTES < count {
-                return emdf_rows::put_refusal(
-                    answer,
-                    RecordsError::TableTooShort { payloads: count },
-                );
-            }
-            let n = parsed.bytes_consumed.0;
-            emdf_rows::put_rows(table, &bytes[..n], first, count);
-            emdf_rows::put_reading(answer, 0, emdf_answers::parsed_words(parsed))
-        }
-        OpenAnswer::Refused(why) => emdf_rows::put_refusal(answer, RecordsError::Emdf(why)),
+    // Without `?`: a refusal is a number here too, and is stored.
+    let (parsed, first) = match openjoc_emdf::open_carrier(bytes) {
+        Ok(opened) => opened,
+        Err(why) => return emdf_rows::put_refusal(answer, RecordsError::Emdf(why)),
+    };
+    let count = parsed.container.payloads;
+    if table.len() / emdf_rows::ROW_BYTES < count {
+        return emdf_rows::put_refusal(answer, RecordsError::TableTooShort { payloads: count });
     }
+    let n = parsed.bytes_consumed.0;
+    emdf_rows::put_rows(table, &bytes[..n], first, count);
+    emdf_rows::put_reading(answer, 0, emdf_answers::parsed_words(parsed))
 }
 
 // The place of the payload with an id and an ordinal.
@@ -167,9 +169,8 @@ pub fn emdf_verdict(bytes: &[u8], profile: u32, answer: &mut [u8; 40]) -> u32
     ensures { Replies (verdict_reply (verdict (profile_of profile) bytes.now)) result answer.new }
 {
     let judged = joc_profile::validate_joc_profile_for(bytes, emdf_answers::profile_of(profile));
-    let values = emdf_answers::verdict_words(judged);
-    emdf_rows::put_words(answer, 0, &values);
-    emdf_answers::verdict_number(judged)
+    let number = emdf_answers::verdict_number(judged);
+    emdf_rows::put_answer(answer, number, &emdf_answers::verdict_words(judged))
 }
 
 // The source with another body at place, into the destination, as with the other edits.

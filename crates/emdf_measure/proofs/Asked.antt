@@ -1,16 +1,15 @@
 -- Laws of the questions: tests one after another, and groups counted. Assumes nothing.
 use mathlib.Core.Path.{◌≡◌, refl, sym, ap, ◌∙◌}
-use mathlib.Core.Bool.{Bool, true, false, not}
+use mathlib.Core.Bool.{Bool, true, false}
 use Prim.Native.Nat.{ℕ, zero, suc, ◌+◌, ◌-◌, ◌*◌, ◌/◌, ◌^◌, ◌≤◌, ◌<◌}
 use native.Mathlib.Omega.{arith}
 use native.Mathlib.Nat.{le_trans, mul-le-mul_right}
 use lib.Pow.{pow_mono}
 use lib.Pow.{shr_le}
 use lib.Dec.{ltb}
-use Rattle.std.specs.Prelude.{if◌then◌else◌}
+use Rattle.std.specs.Prelude.{if◌then◌else◌, Option, Some, None}
 use Rattle.emdf_format.specs.Syntax.{capacity, count_before, groups, escape, extended_groups}
-use Rattle.emdf_format.specs.Contents.{◌&◌, iff, present_as_ruled, extension_bits}
-use Rattle.emdf_format.specs.declared.Optional.{Optional}
+use Rattle.emdf_format.specs.Contents.{◌&◌, present_bits, flagged_bits, extension_bits}
 use Rattle.emdf_format.proofs.Variable.{groups-least}
 
 -- ---- tests one after another
@@ -23,19 +22,10 @@ pub go : {x : Bool} {r : Bool} (y : Bool) → x ≡ true → r ≡ y → r ≡ x
 unfolding ◌&◌
 go y h k = k ∙ rw h
 
-pub iff-yes : (a : Bool) {t : Bool} → t ≡ true → a ≡ iff a t
-unfolding iff
-iff-yes true h = sym h
-iff-yes false h = rw h
-
-pub iff-no : (a : Bool) {t : Bool} → t ≡ false → not a ≡ iff a t
-unfolding iff
-iff-no true h = sym h
-iff-no false h = rw h
-
--- a setting whose presence was computed
-pub ruled-by : {r a b : Bool} (n : ℕ) (o : Optional) → r ≡ present_as_ruled a n o → a ≡ b → r ≡ present_as_ruled b n o
-ruled-by n o h e = rw e at h
+pub flagged-width : (w : ℕ) (o : Option ℕ) → flagged_bits (λ v. w) o ≡ 1 + present_bits w o
+unfolding flagged_bits present_bits
+flagged-width w None = refl
+flagged-width w (Some v) = refl
 
 -- ---- groups
 

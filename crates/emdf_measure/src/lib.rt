@@ -7,7 +7,7 @@ ghost use Rattle.emdf_format.specs.Groups.{larger as largerOf, optional_groups};
 ghost use Rattle.emdf_format.specs.Contents.{when_present, up_to, present_as_ruled, writable_config, protection_code, codable, extension_bits, flagged_bits, present_bits, needed_config};
 ghost use Rattle.emdf_measure.specs.Parts.{writable_controls, control_bits, writable_protection};
 
-use emdf_format::{EmdfPayloadConfig, Optional};
+use emdf_format::EmdfPayloadConfig;
 
 pub const MAX_SAMPLE_OFFSET: u64 = 2047;
 
@@ -19,74 +19,40 @@ pub const MAX_GROUP_ID: u64 = 6148914691236517203;
 pub fn writable_config(t: EmdfPayloadConfig) -> bool
     ensures { result ≡ writable_config t }
 {
-    let offset = t.sample_offset;
-    let duration = t.duration;
-    let group = t.group_id;
-    if !at_most(offset, MAX_SAMPLE_OFFSET) {
-        return false;
-    }
-    if !at_most(duration, MAX_DURATION) {
-        return false;
-    }
-    if !at_most(group, MAX_GROUP_ID) {
-        return false;
-    }
-    if 1 < t.codec_data_present {
-        return false;
-    }
-    if 1 < t.discard_unknown_payload {
-        return false;
-    }
-    writable_controls(t)
+    at_most(t.sample_offset, MAX_SAMPLE_OFFSET)
+        && at_most(t.duration, MAX_DURATION)
+        && at_most(t.group_id, MAX_GROUP_ID)
+        && t.codec_data_present <= 1
+        && t.discard_unknown_payload <= 1
+        && writable_controls(t)
 }
 
 // The settings after discard.
 fn writable_controls(t: EmdfPayloadConfig) -> bool
     ensures { result ≡ writable_controls t }
 {
-    let discard = t.discard_unknown_payload;
-    let offset = t.sample_offset;
     let aligned = t.payload_frame_aligned;
-    let create = t.create_duplicate;
-    let remove = t.remove_duplicate;
-    let priority = t.priority;
-    let processing = t.processing_allowed;
-    if !present_as_ruled(emdf_settings::has_aligned(discard, offset), 1, aligned) {
-        return false;
-    }
-    if !present_as_ruled(emdf_settings::is_one(aligned), 1, create) {
-        return false;
-    }
-    if !present_as_ruled(emdf_settings::is_one(aligned), 1, remove) {
-        return false;
-    }
-    let ranked = emdf_settings::has_priority(discard, offset, aligned);
-    if !present_as_ruled(ranked, 31, priority) {
-        return false;
-    }
-    present_as_ruled(ranked, 3, processing)
+    let wanted = emdf_settings::has_aligned(t.discard_unknown_payload, t.sample_offset);
+    let kept = emdf_settings::is_one(aligned);
+    let ranked = emdf_settings::has_priority(t.discard_unknown_payload, t.sample_offset, aligned);
+    present_as_ruled(wanted, 1, aligned)
+        && present_as_ruled(kept, 1, t.create_duplicate)
+        && present_as_ruled(kept, 1, t.remove_duplicate)
+        && present_as_ruled(ranked, 31, t.priority)
+        && present_as_ruled(ranked, 3, t.processing_allowed)
 }
 
 // There exactly where the rule wants it, and then at most n.
-fn present_as_ruled(there: bool, n: u64, o: Optional) -> bool
+fn present_as_ruled(there: bool, n: u64, o: Option<u64>) -> bool
     ensures { result ≡ present_as_ruled there n o }
 {
-    if !at_most(o, n) {
-        return false;
-    }
-    if there {
-        return emdf_settings::is_present(o);
-    }
-    !emdf_settings::is_present(o)
+    at_most(o, n) && o.is_some() == there
 }
 
-fn at_most(o: Optional, n: u64) -> bool
+fn at_most(o: Option<u64>, n: u64) -> bool
     ensures { result ≡ when_present (up_to n) o }
 {
-    match o {
-        Optional::Absent => true,
-        Optional::Present(v) => v <= n,
-    }
+    o.is_none_or(|v| v <= n)
 }
 
 // How many groups a value takes in a variable field.
@@ -114,20 +80,17 @@ pub fn extended_groups(width: usize, escape: u64, v: u64) -> usize
     group_count(width, v - escape)
 }
 
-pub fn optional_groups(width: usize, o: Optional) -> usize
+pub fn optional_groups(width: usize, o: Option<u64>) -> usize
     requires { (0 < width) × (width < 64) }
     ensures { result ≡ optional_groups width o }
 {
-    match o {
-        Optional::Absent => 0,
-        Optional::Present(v) => group_count(width, v),
-    }
+    o.map_or(0, |v| group_count(width, v))
 }
 
 pub fn larger(a: usize, b: usize) -> usize
     ensures { result ≡ largerOf a b }
 {
-    if a < b { b } else { a }
+    a.max(b)
 }
 
 // The bits of an id of a payload, with its extension.
@@ -155,56 +118,37 @@ pub fn size_bits(n: usize) -> usize
 pub fn config_bits(t: EmdfPayloadConfig) -> usize
     ensures { (result ≡ needed_config t) × (result ≤ 2048) }
 {
-    let offset = t.sample_offset;
-    let duration = t.duration;
-    let group = t.group_id;
-    let head = offset_bits(offset) + variable_bits(duration, 11) + variable_bits(group, 2);
-    if t.codec_data_present == 0 {
-        return head + 1 + 1 + control_bits(t);
-    }
-    head + 9 + 1 + control_bits(t)
-}
-
-fn offset_bits(o: Optional) -> usize
-    ensures { (result ≡ flagged_bits (λ v. 12) o) × (result ≤ 13) }
-{
-    match o {
-        Optional::Absent => 1,
-        Optional::Present(_) => 13,
-    }
+    let timing = 1
+        + present_bits(t.sample_offset, 12)
+        + variable_bits(t.duration, 11)
+        + variable_bits(t.group_id, 2);
+    let codec = if t.codec_data_present == 0 { 1 } else { 9 };
+    timing + codec + 1 + control_bits(t)
 }
 
 // A flag and, where it is set, a variable field.
-fn variable_bits(o: Optional, width: usize) -> usize
+fn variable_bits(o: Option<u64>, width: usize) -> usize
     requires { (0 < width) × (width < 12) }
     ensures { (result ≡ flagged_bits (λ v. (width + 1) * groups width v) o) × (result ≤ 769) }
 {
-    match o {
-        Optional::Absent => 1,
-        Optional::Present(v) => 1 + (width + 1) * group_count(width, v),
-    }
+    o.map_or(1, |v| 1 + (width + 1) * group_count(width, v))
 }
 
 // The bits of the settings after discard.
 fn control_bits(t: EmdfPayloadConfig) -> usize
     ensures { (result ≡ control_bits t) × (result ≤ 10) }
 {
-    let aligned = t.payload_frame_aligned;
-    let create = t.create_duplicate;
-    let remove = t.remove_duplicate;
-    let priority = t.priority;
-    let processing = t.processing_allowed;
-    let flags = present_bits(aligned, 1) + present_bits(create, 1) + present_bits(remove, 1);
-    flags + present_bits(priority, 5) + present_bits(processing, 2)
+    present_bits(t.payload_frame_aligned, 1)
+        + present_bits(t.create_duplicate, 1)
+        + present_bits(t.remove_duplicate, 1)
+        + present_bits(t.priority, 5)
+        + present_bits(t.processing_allowed, 2)
 }
 
-fn present_bits(o: Optional, width: usize) -> usize
+fn present_bits(o: Option<u64>, width: usize) -> usize
     ensures { (result ≡ present_bits width o) × (result ≤ width) }
 {
-    match o {
-        Optional::Absent => 0,
-        Optional::Present(_) => width,
-    }
+    if o.is_some() { width } else { 0 }
 }
 
 // The code of a protection's length, and whether it has one of its own.
@@ -222,24 +166,12 @@ pub fn protection_code(n: usize) -> u64
 fn is_codable(n: usize) -> bool
     ensures { result ≡ codable n }
 {
-    match n {
-        0 => true,
-        1 => true,
-        4 => true,
-        16 => true,
-        _ => false,
-    }
+    matches!(n, 0 | 1 | 4 | 16)
 }
 
 // Whether both protections have a length that has a code, and the first is not empty.
 pub fn writable_protection(primary: &[u8], secondary: &[u8]) -> bool
     ensures { result ≡ writable_protection primary.now secondary.now }
 {
-    if primary.len() == 0 {
-        return false;
-    }
-    if !is_codable(primary.len()) {
-        return false;
-    }
-    is_codable(secondary.len())
+    !primary.is_empty() && is_codable(primary.len()) && is_codable(secondary.len())
 }

@@ -7,26 +7,25 @@ use native.Mathlib.Omega.{arith}
 use lib.Dec.{eqb}
 use lib.ListN.{length, length-append}
 use borrow.Author.Tests.{eqb-true, eq-eqb, ne_eqb}
-use Rattle.std.specs.Prelude.{if◌then◌else◌}
+use Rattle.std.specs.Prelude.{if◌then◌else◌, Option, Some, None, Result, Ok, Err}
 use Rattle.openjoc_bitio.specs.declared.BitCursor.{BitCursor}
+use Rattle.emdf_format.specs.declared.FindError.{FindError}
 use Rattle.emdf_format.specs.declared.EmdfError.{EmdfError}
 use Rattle.emdf_format.specs.declared.PayloadRecord.{PayloadRecord}
-use Rattle.emdf_format.specs.declared.FindAnswer.{FindAnswer}
-use Rattle.emdf_format.specs.declared.FindAnswer.TheVariants.{Place, Refused}
 use Rattle.emdf_format.specs.declared.FindError.TheVariants.{Emdf, NoSuchOrdinal}
 use Rattle.emdf_format.specs.Contents.{◌&◌}
-use Rattle.emdf_format.specs.Reading.{Found, payloads_of, refusal, reading}
+use Rattle.emdf_format.specs.Reading.{Found, payloads_of, reading}
 use Rattle.emdf_format.specs.Ordinals.{occurrences, ordinal_at, ids_of, ids_in, rows_from, rows_of, find_in, find_payload}
 use Rattle.emdf_format.proofs.Ordinals.{occurrences-append, ordinal-next}
 use Rattle.openjoc_emdf.specs.declared.ParsedEmdf.{ParsedEmdf}
-use Rattle.openjoc_emdf.specs.Answers.{Opened}
-use Rattle.emdf_payloads.specs.declared.PayloadStep.TheVariants as PayloadStep
-use Rattle.emdf_payloads.specs.Payloads.{Listed, step_at}
-use Rattle.emdf_payloads.proofs.Walk.{step-found, step-ended, step-refused}
+use Rattle.openjoc_emdf.specs.Answers.{open_answer, Opened}
+use Rattle.openjoc_emdf.proofs.Opening.{unopened}
+use Rattle.emdf_payloads.specs.Payloads.{Listed, step_at, skip_of}
+use Rattle.emdf_payloads.proofs.Walk.{step-found, step-ended, step-refused, skip-refused}
 use Rattle.emdf_ordinals.specs.Rows.{is_wanted}
 
 -- payloads with the ids before were passed, so many of them with id x; what is found among those left is the answer
-pub record Looking (s : List ℕ) (at : BitCursor) (x o place seen : ℕ) (answer : FindAnswer) : Type 0 where
+pub record Looking (s : List ℕ) (at : BitCursor) (x o place seen : ℕ) (answer : Result ℕ FindError) : Type 0 where
   pub before : List ℕ
   pub left : List Found
   pub listed : Listed s at left
@@ -49,25 +48,25 @@ wanted-row found x o before = go (eqb found x) refl
         ap (λ (k : ℕ). eqb k o) n
     go false e = refl
 
-module _ {s : List ℕ} {c : BitCursor} {x o place seen : ℕ} {answer : FindAnswer} (a : Looking s c x o place seen answer) where
-  module _ {r : PayloadRecord} {next : BitCursor} (h : step_at s c ≡ PayloadStep.Payload r next) where
+module _ {s : List ℕ} {c : BitCursor} {x o place seen : ℕ} {answer : Result ℕ FindError} (a : Looking s c x o place seen answer) where
+  module _ {r : PayloadRecord} {next : BitCursor} (h : step_at s c ≡ Ok (Some r, next)) where
     -- the first row, and the others
     turned : (xs : List Found) → a.left ≡ xs → Listed s c xs
-        → (others : List Found) × (Listed s next others) × (answer ≡ (if is_wanted r.id x o seen then Place place else find_in x o (suc place) (rows_from ((a.before ++ r.id ∷ []) ++ ids_in others) (suc place) others)))
+        → (others : List Found) × (Listed s next others) × (answer ≡ (if is_wanted r.id x o seen then Ok place else find_in x o (suc place) (rows_from ((a.before ++ r.id ∷ []) ++ ids_in others) (suc place) others)))
     unfolding find_in rows_from ids_of payloads_of
     turned xs e l =
         let f = step-found s c xs l h in
         (f.others, f.listed, sym a.same ∙ ap (λ (ys : List Found). find_in x o place (rows_from (a.before ++ ids_in ys) place ys)) (e ∙ f.is) ∙ first-row f.first f.others (ap (λ (q : PayloadRecord). q.id) f.record_is))
       where
         first-row : (y : Found) (ys : List Found) → y.record_of.id ≡ r.id
-            → find_in x o place (rows_from (a.before ++ ids_in (y ∷ ys)) place (y ∷ ys)) ≡ (if is_wanted r.id x o seen then Place place else find_in x o (suc place) (rows_from ((a.before ++ r.id ∷ []) ++ ids_in ys) (suc place) ys))
+            → find_in x o place (rows_from (a.before ++ ids_in (y ∷ ys)) place (y ∷ ys)) ≡ (if is_wanted r.id x o seen then Ok place else find_in x o (suc place) (rows_from ((a.before ++ r.id ∷ []) ++ ids_in ys) (suc place) ys))
         first-row y ys i =
             let n : ordinal_at (a.before ++ y.record_of.id ∷ ids_in ys) place ≡ suc (occurrences y.record_of.id a.before) = ap (ordinal_at (a.before ++ y.record_of.id ∷ ids_in ys)) (sym a.passed) ∙ ordinal-next a.before y.record_of.id (ids_in ys) in
-            let P : ℕ → Type 0 = λ q. (if is_wanted q x o (occurrences x a.before) then Place place else find_in x o (suc place) (rows_from (a.before ++ q ∷ ids_in ys) (suc place) ys)) ≡ (if is_wanted r.id x o seen then Place place else find_in x o (suc place) (rows_from ((a.before ++ r.id ∷ []) ++ ids_in ys) (suc place) ys)) in
+            let P : ℕ → Type 0 = λ q. (if is_wanted q x o (occurrences x a.before) then Ok place else find_in x o (suc place) (rows_from (a.before ++ q ∷ ids_in ys) (suc place) ys)) ≡ (if is_wanted r.id x o seen then Ok place else find_in x o (suc place) (rows_from ((a.before ++ r.id ∷ []) ++ ids_in ys) (suc place) ys)) in
             let last : P r.id = rw (a.counted, append_assoc a.before (r.id ∷ []) (ids_in ys)) in
             rw (n, ← wanted-row y.record_of.id x o a.before) (subst P (sym i) last)
 
-    pub looked-found : is_wanted r.id x o seen ≡ true → Place place ≡ answer
+    pub looked-found : is_wanted r.id x o seen ≡ true → Ok place ≡ answer
     looked-found w = let (others, l, e) = turned a.left refl a.listed in sym (rw w at e)
 
     pub looked-past : {more : ℕ} → is_wanted r.id x o seen ≡ false → more ≡ (if eqb r.id x then seen + 1 else seen) → Looking s next x o (place + 1) more answer
@@ -88,12 +87,13 @@ module _ {s : List ℕ} {c : BitCursor} {x o place seen : ℕ} {answer : FindAns
         more-seen true b = let k : more ≡ seen + 1 = rw b at m in rw b (omega (arith, a.counted))
         more-seen false b = let k : more ≡ seen = rw b at m in rw b (omega (arith, a.counted))
 
-  pub looked-ended : {next : BitCursor} → step_at s c ≡ PayloadStep.End next → Refused NoSuchOrdinal ≡ answer
+  pub looked-ended : {next : BitCursor} → step_at s c ≡ Ok (None, next) → Err NoSuchOrdinal ≡ answer
   unfolding find_in rows_from
   looked-ended h = ap (λ (ys : List Found). find_in x o place (rows_from (a.before ++ ids_in ys) place ys)) (sym (step-ended s c a.left a.listed h)) ∙ a.same
 
-  pub never-refused : {why : EmdfError} → step_at s c ≡ PayloadStep.Refused why → ⊥
-  never-refused h = step-refused s c a.left a.listed h
+  -- no payload of a list that is read is refused
+  pub never-refused : {b : Result (Option ℕ × BitCursor) EmdfError} → b ≡ skip_of (step_at s c) → (why : EmdfError) × (b ≡ Err why) → ⊥
+  never-refused i (why, h) = step-refused s c a.left a.listed (skip-refused (step_at s c) (sym i ∙ h))
 
 -- ---- what was seen, by whether a payload has the id
 
@@ -118,6 +118,7 @@ pub opened-find : {s : List ℕ} {p : ParsedEmdf} {first : BitCursor} (x o : ℕ
 unfolding find_payload
 opened-find x o d = rw d.is
 
-pub unopened-find : (s : List ℕ) {why : EmdfError} (x o : ℕ) → reading s ≡ refusal why → Refused (Emdf why) ≡ find_payload x o (reading s)
+pub unopened-find : (s : List ℕ) (x o : ℕ) {a : Result (ParsedEmdf × BitCursor) EmdfError} {r : Result ℕ FindError} → a ≡ open_answer s (reading s)
+    → (why : EmdfError) × (a ≡ Err why) × (r ≡ Err (Emdf why)) → r ≡ find_payload x o (reading s)
 unfolding find_payload
-unopened-find s x o h = rw h
+unopened-find s x o i (why, h, e) = e ∙ rw (unopened s (sym i ∙ h))

@@ -2,8 +2,7 @@
 use mathlib.Core.Path.{◌≡◌, refl, sym, ap, ◌∙◌}
 use mathlib.Core.Bool.{Bool, true, false}
 use mathlib.Core.List.{List}
-use Prim.Native.Nat.{ℕ, zero, suc, ◌+◌, ◌-◌, ◌*◌, ◌<◌, ◌≤◌}
-use native.Mathlib.Nat.{suc-mul, mul-le-mul_right}
+use Prim.Native.Nat.{ℕ, zero, suc, ◌-◌, ◌<◌, ◌≤◌}
 use native.Mathlib.Decide.{dec_lt}
 use native.Mathlib.Omega.{arith}
 use lib.Dec.{eqb}
@@ -115,34 +114,23 @@ module _ (id ordinal : ℕ → ℕ) (ids : List ℕ) where
 -- ---- rows from the last to the first
 
 module _ (id ordinal : ℕ → ℕ) (x : ℕ) where
-  pub last-here : (left : ℕ) → (left ≡ 0 → ⊥) → id (left - 1) ≡ x → ordinal (left - 1) ≡ last_ordinal id ordinal x left
+  pub last-here : (left : ℕ) → 0 < left → id (left - 1) ≡ x → ordinal (left - 1) ≡ last_ordinal id ordinal x left
   unfolding last_ordinal
-  last-here zero h e = absurd (h refl)
+  last-here zero h e = absurd (omega arith)
   last-here (suc left) h e =
       let n : suc left - 1 ≡ left = omega arith in
       let f : id left ≡ x = rw n at e in
       rw (n, eq-eqb (id left) x f)
 
-  pub last-before : (left : ℕ) → (left ≡ 0 → ⊥) → (id (left - 1) ≡ x → ⊥) → last_ordinal id ordinal x (left - 1) ≡ last_ordinal id ordinal x left
+  pub last-before : (left : ℕ) → 0 < left → (id (left - 1) ≡ x → ⊥) → last_ordinal id ordinal x (left - 1) ≡ last_ordinal id ordinal x left
   unfolding last_ordinal
-  last-before zero h e = absurd (h refl)
+  last-before zero h e = absurd (omega arith)
   last-before (suc left) h e =
       let n : suc left - 1 ≡ left = omega arith in
       let f : id left ≡ x → ⊥ = rw n at e in
       rw (n, ne_eqb (id left) x f)
 
-pub none_left : (id ordinal : ℕ → ℕ) (x left : ℕ) → left ≡ 0 → last_ordinal id ordinal x left ≡ 0
+pub none_left : (id ordinal : ℕ → ℕ) (x left : ℕ) → left ≤ 0 → last_ordinal id ordinal x left ≡ 0
 unfolding last_ordinal
 none_left id ordinal x zero h = refl
 none_left id ordinal x (suc left) h = absurd (omega arith)
-
--- where the row before the left-th starts, and that it lies in n bytes
-pub row-start : (left row at : ℕ) → at ≡ left * row → (left ≡ 0 → ⊥) → (row ≤ at) × (at - row ≡ (left - 1) * row)
-row-start zero row at e h = absurd (h refl)
-row-start (suc left) row at e h =
-    let f : at ≡ left * row + row = e ∙ suc-mul left row in
-    let n : suc left - 1 ≡ left = omega arith in
-    (omega arith, rw n (omega arith))
-
-pub row_within : (left rows row : ℕ) {at n : ℕ} → at ≡ left * row → left ≤ rows → rows * row ≤ n → at ≤ n
-row_within left rows row e h k = omega (arith, e, k, mul-le-mul_right row h)

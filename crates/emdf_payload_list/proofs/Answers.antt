@@ -1,37 +1,35 @@
 -- What the list's answer says of the reading. Assumes nothing.
-use mathlib.Core.Path.{◌≡◌, sym, ap, ◌∙◌}
+use mathlib.Core.Path.{◌≡◌, sym, ◌∙◌}
 use mathlib.Core.List.{List}
 use Prim.Native.Nat.{ℕ}
-use native.Mathlib.Omega.{arith}
 use lib.ListN.{length}
+use Rattle.std.specs.Prelude.{Result, Ok, Err}
 use Rattle.openjoc_bitio.specs.declared.BitCursor.{BitCursor}
-use Rattle.emdf_format.specs.Reader.{Read, got, refused, Reader, ◌>>=◌, cursor_at}
+use Rattle.openjoc_bitio.proofs.Results.{all-same, err-same, ok-is-not-err, err-is-not-ok}
+use Rattle.emdf_format.specs.Reader.{Read, got, refused, Reader, ◌>>=◌}
 use Rattle.emdf_format.specs.Reading.{Found as Payload, payloads_of}
 use Rattle.emdf_format.specs.Groups.{payloads_groups}
 use Rattle.emdf_format.specs.declared.EmdfError.{EmdfError}
 use Rattle.emdf_fields.proofs.Answers.{Found, ends}
-use Rattle.emdf_payload_list.specs.List.{list_answer, list_error}
-use Rattle.emdf_payload_list.specs.declared.ListAnswer.{ListAnswer}
+use Rattle.emdf_payload_list.specs.List.{list_answer}
 
-pub list-found : (e : ℕ) (x : Read (List Payload)) {n m : ℕ} {c : BitCursor} → list_answer e x ≡ ListAnswer.List n m c
+pub list-found : (e : ℕ) (x : Read (List Payload)) {n m : ℕ} {c : BitCursor} → list_answer e x ≡ Ok (n, m, c)
     → (xs : List Payload) × (length xs ≡ n) × (payloads_groups (payloads_of xs) ≡ m) × Found x e xs c
 unfolding list_answer
-list-found e (got xs q) {n} {m} {c} h =
-    let a : length xs ≡ n = cc in
-    let g : payloads_groups (payloads_of xs) ≡ m = cc in
-    let b : cursor_at e q ≡ c = cc in
-    (xs, a, g, record { is = rw (← b); end = rw (← b) })
-list-found e (refused why q) h = absurd (let z : ◌≡◌ {A = ℕ} 0 1 = cc in omega arith)
+list-found e (got xs q) h =
+    let p = all-same h in
+    (xs, p.0, p.1, record { is = rw (← p.2); end = rw (← p.2) })
+list-found e (refused why q) h = absurd (err-is-not-ok h)
 
-list-ended : (e : ℕ) (x : Read (List Payload)) {why : EmdfError} → list_answer e x ≡ ListAnswer.Refused why → (q : ℕ) × (x ≡ refused why q)
+list-ended : (e : ℕ) (x : Read (List Payload)) {why : EmdfError} → list_answer e x ≡ Err why → (q : ℕ) × (x ≡ refused why q)
 unfolding list_answer
-list-ended e (got xs q) h = absurd (let z : ◌≡◌ {A = ℕ} 0 1 = cc in omega arith)
-list-ended e (refused why' q) {why} h = let a : why' ≡ why = cc in (q, rw a)
+list-ended e (got xs q) h = absurd (ok-is-not-err h)
+list-ended e (refused why' q) h = (q, rw (err-same h))
 
-pub by-list : {B Z : Type 0} (g : ℕ → Read B → Z) (h : EmdfError → Z) → ((e q : ℕ) (why : EmdfError) → h why ≡ g e (refused why q))
-    → (m : Reader (List Payload)) (k : List Payload → Reader B) (s : List ℕ) (e p : ℕ) {a : ListAnswer} {why x : EmdfError}
-    → a ≡ list_answer e (m s e p) → a ≡ ListAnswer.Refused why → x ≡ list_error a x → h x ≡ g e ((m >>= k) s e p)
-by-list g h refuses m k s e p {a} {why} {x} i t z =
+-- the answer that g gives a refusal is the list's
+pub by-list : {B Z : Type 0} (g : ℕ → Read B → Result Z EmdfError) → ((e q : ℕ) (why : EmdfError) → Err why ≡ g e (refused why q))
+    → (m : Reader (List Payload)) (k : List Payload → Reader B) (s : List ℕ) (e p : ℕ) {a : Result (ℕ × ℕ × BitCursor) EmdfError} {r : Result Z EmdfError} {why : EmdfError}
+    → a ≡ list_answer e (m s e p) → a ≡ Err why → r ≡ Err why → r ≡ g e ((m >>= k) s e p)
+by-list g refuses m k s e p {why = why} i t z =
     let d = list-ended e (m s e p) (sym i ∙ t) in
-    let y : x ≡ why = rw t at z in
-    ends g m k s e p d.1 (ap h y ∙ refuses e d.0 why)
+    ends g m k s e p d.1 (z ∙ refuses e d.0 why)

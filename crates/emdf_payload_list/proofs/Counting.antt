@@ -5,8 +5,10 @@ use Prim.Native.Nat.{ℕ, suc, ◌+◌, ◌-◌, ◌≤◌}
 use native.Mathlib.Omega.{arith}
 use native.Mathlib.Nat.{add-zero}
 use lib.ListN.{length}
+use Rattle.std.specs.Prelude.{Option, Some, None, Result, Ok, Err}
 use Rattle.openjoc_bitio.specs.Cursor.{bits_remaining}
 use Rattle.openjoc_bitio.specs.declared.BitCursor.{BitCursor}
+use Rattle.openjoc_bitio.proofs.Results.{some-same, none-same, some-is-not-none, none-is-not-some, err-is-not-ok}
 use Rattle.emdf_format.specs.Syntax.{extended_field}
 use Rattle.emdf_format.specs.Reader.{Read, got, refused, and_then, ◌>>=◌, give, cursor_at}
 use Rattle.emdf_format.specs.Reading.{Found as Payload, payloads, payload_of, payloads_of}
@@ -18,31 +20,30 @@ use Rattle.emdf_format.proofs.Payloads.{at-inv, id-law, after-sound}
 use Rattle.emdf_format.proofs.Groups.{size-groups, larger-left, larger-zero, larger-assoc}
 use Rattle.emdf_format.proofs.Loops.{payloads-enough}
 use Rattle.emdf_payloads.specs.Payloads.{found, next_payload, next_answer, record_groups}
-use Rattle.emdf_payloads.specs.declared.PayloadStep.{PayloadStep}
 use Rattle.emdf_payloads.proofs.Turns.{ended_is, found-is, refused-is, moves, rest, enough, Onward, at-payload as onward}
 use Rattle.emdf_payload_list.specs.List.{list_step, list_answer}
-use Rattle.emdf_payload_list.specs.declared.ListStep.TheVariants as ListStep
-use Rattle.emdf_payload_list.specs.declared.ListAnswer.{ListAnswer}
 
 -- ---- what a step of the list says of the payload's
 
-pub count_past : (most : ℕ) {more : ℕ} {next : BitCursor} (x : PayloadStep) → list_step most x ≡ ListStep.Past more next → (r : PayloadRecord) × (x ≡ PayloadStep.Payload r next) × (larger most (record_groups r) ≡ more)
+pub count_past : (most : ℕ) {more : ℕ} {next : BitCursor} (x : Result (Option PayloadRecord × BitCursor) EmdfError) → list_step most x ≡ Ok (Some more, next) → (r : PayloadRecord) × (x ≡ Ok (Some r, next)) × (larger most (record_groups r) ≡ more)
 unfolding list_step
-count_past most (PayloadStep.Payload r c) h = (r, cc, cc)
-count_past most (PayloadStep.End c) h = absurd (let w : ◌≡◌ {A = ℕ} 0 1 = cc in omega arith)
-count_past most (PayloadStep.Refused why) h = absurd (let w : ◌≡◌ {A = ℕ} 0 1 = cc in omega arith)
+count_past most (Ok (Some r, c)) h =
+    let p = some-same h in
+    (r, ap {B = Result (Option PayloadRecord × BitCursor) EmdfError} (λ (k : BitCursor). Ok (Some r, k)) p.1, p.0)
+count_past most (Ok (None, c)) h = absurd (none-is-not-some h)
+count_past most (Err why) h = absurd (err-is-not-ok h)
 
-pub count-end : (most : ℕ) {next : BitCursor} (x : PayloadStep) → list_step most x ≡ ListStep.End next → x ≡ PayloadStep.End next
+pub count-end : (most : ℕ) {next : BitCursor} (x : Result (Option PayloadRecord × BitCursor) EmdfError) → list_step most x ≡ Ok (None, next) → x ≡ Ok (None, next)
 unfolding list_step
-count-end most (PayloadStep.Payload r c) h = absurd (let w : ◌≡◌ {A = ℕ} 0 1 = cc in omega arith)
-count-end most (PayloadStep.End c) h = cc
-count-end most (PayloadStep.Refused why) h = absurd (let w : ◌≡◌ {A = ℕ} 0 1 = cc in omega arith)
+count-end most (Ok (Some r, c)) h = absurd (some-is-not-none h)
+count-end most (Ok (None, c)) h = ap {B = Result (Option PayloadRecord × BitCursor) EmdfError} (λ (k : BitCursor). Ok (None, k)) (none-same h)
+count-end most (Err why) h = absurd (err-is-not-ok h)
 
-pub count-refused : (most : ℕ) {why : EmdfError} (x : PayloadStep) → list_step most x ≡ ListStep.Refused why → x ≡ PayloadStep.Refused why
+pub count-refused : (most : ℕ) {why : EmdfError} (x : Result (Option PayloadRecord × BitCursor) EmdfError) → list_step most x ≡ Err why → x ≡ Err why
 unfolding list_step
-count-refused most (PayloadStep.Payload r c) h = absurd (let w : ◌≡◌ {A = ℕ} 0 1 = cc in omega arith)
-count-refused most (PayloadStep.End c) h = absurd (let w : ◌≡◌ {A = ℕ} 0 1 = cc in omega arith)
-count-refused most (PayloadStep.Refused why) h = cc
+count-refused most (Ok (Some r, c)) h = absurd (let w : ◌≡◌ {A = ℕ} 0 1 = cc in omega arith)
+count-refused most (Ok (None, c)) h = absurd (let w : ◌≡◌ {A = ℕ} 0 1 = cc in omega arith)
+count-refused most (Err why) h = cc
 
 -- ---- all that is left to count
 
@@ -62,9 +63,9 @@ record-groups s e p q x h =
     rw (size-groups ((rw a at (after-sound p₀ id h₂)).spans i))
 
 -- how many payloads there are and their largest groups, k of them counted already, with most
-unfoldable pub count_from : ℕ → ℕ → ℕ → Read (List Payload) → ListAnswer
-count_from k most e (got xs q) = ListAnswer.List (k + length xs) (larger most (payloads_groups (payloads_of xs))) (cursor_at e q)
-count_from k most e (refused why q) = ListAnswer.Refused why
+unfoldable pub count_from : ℕ → ℕ → ℕ → Read (List Payload) → Result (ℕ × ℕ × BitCursor) EmdfError
+count_from k most e (got xs q) = Ok (k + length xs, larger most (payloads_groups (payloads_of xs)), cursor_at e q)
+count_from k most e (refused why q) = Err why
 
 pub count-all : (e : ℕ) (y : Read (List Payload)) → count_from 0 0 e y ≡ list_answer e y
 unfolding count_from list_answer
@@ -93,16 +94,16 @@ module _ (k most : ℕ) (s : List ℕ) (at : BitCursor) where
   p = at.position
 
   -- all that is left to count
-  abbrev pub left : ListAnswer
+  abbrev pub left : Result (ℕ × ℕ × BitCursor) EmdfError
   left = count_from k most e (payloads (bits_remaining s at) s e p)
 
-  pub at-end : {c : BitCursor} → next_answer e (next_payload s e p) ≡ PayloadStep.End c → ListAnswer.List k most c ≡ left
+  pub at-end : {c : BitCursor} → next_answer e (next_payload s e p) ≡ Ok (None, c) → Ok (k, most, c) ≡ left
   unfolding count_from rest give payloads_of payloads_groups
   at-end h =
       let d = ended_is (next_payload s e p) h in
       rw (enough s at, bind-go next_payload (rest (bits_remaining s at)) d.is refl, add-zero, larger-left most 0 (omega arith), ← d.end)
 
-  pub at-refused : {why : EmdfError} → next_answer e (next_payload s e p) ≡ PayloadStep.Refused why → ListAnswer.Refused why ≡ left
+  pub at-refused : {why : EmdfError} → next_answer e (next_payload s e p) ≡ Err why → Err why ≡ left
   unfolding count_from
   at-refused h = let d = refused-is e (next_payload s e p) h in rw (enough s at, bind-no next_payload (rest (bits_remaining s at)) d.1)
 
@@ -110,7 +111,7 @@ module _ (k most : ℕ) (s : List ℕ) (at : BitCursor) where
     pub left : count_from (k + 1) (larger most (record_groups r)) c.end (payloads (bits_remaining s c) s c.end c.position) ≡ left
     pub onward : Onward s at c
 
-  pub at-payload : {r : PayloadRecord} {c : BitCursor} → next_answer e (next_payload s e p) ≡ PayloadStep.Payload r c → More r c
+  pub at-payload : {r : PayloadRecord} {c : BitCursor} → next_answer e (next_payload s e p) ≡ Ok (Some r, c) → More r c
   unfolding rest
   at-payload {r} {c} h =
       let (x, i, d) = found-is e (next_payload s e p) h in

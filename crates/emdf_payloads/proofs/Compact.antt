@@ -7,7 +7,7 @@ use native.Mathlib.Omega.{arith}
 use native.Mathlib.Decide.{dec_le}
 use borrow.Author.Tests.{lt-ltb}
 use lib.Dec.{eqb, lit≤, eqb→eq}
-use Rattle.std.specs.Prelude.{if◌then◌else◌}
+use Rattle.std.specs.Prelude.{if◌then◌else◌, Some, None, Ok}
 use Rattle.openjoc_bitio.specs.Bits.{window_at}
 use Rattle.openjoc_bitio.proofs.Bits.{window-range}
 use Rattle.openjoc_bitio.specs.Cursor.{bits_remaining}
@@ -26,11 +26,10 @@ use Rattle.emdf_compact.specs.Words.{compact_settings, compact_config, config_le
 use Rattle.emdf_fields.proofs.Word.{Word, word-window, word_after}
 use Rattle.emdf_compact.proofs.Words.{top-few}
 use Rattle.emdf_compact.proofs.Groups.{two-are-two, others-one, grouped-head, head-mark, grouped-few}
-use Rattle.emdf_compact.proofs.Compact.{config-found, id-found, size-found, head-end, head_of, head-most, size-most, value-most}
+use Rattle.emdf_compact.proofs.Compact.{found, id-found, size-found, head-end, head_of, head-most, size-most, value-most}
 use Rattle.emdf_payloads.specs.Payloads.{next_payload, next_step, next_answer, step_at, record_groups}
 use Rattle.emdf_payloads.specs.Compact.{not_compact, compact_parts, compact_record, compact_groups, compact_step}
 use Rattle.emdf_payloads.specs.declared.CompactPayload.{CompactPayload}
-use Rattle.emdf_payloads.specs.declared.PayloadStep.TheVariants as PayloadStep
 
 more : (k : ℕ) → eqb k 0 ≡ false → 0 < k
 more k h = let f = neqb→ne k 0 (T-not-of h) in elim (dec_le 1 k) [
@@ -47,7 +46,7 @@ after-found {s} {q} {m} {x} w h₆₄ h₅₂ e p₀ id {z} {b} {t} settings som
     let n = size_value (window_at s z) in
     let r : b + 8 * n ≡ t = omega arith in
     bind-go position _ (at-go s e q)
-    (bind-go payload_config _ (config-found w h₆₄ h₅₂ settings e (omega arith) ∙ ap (λ (o : ℕ). got (compact_config x) o) i)
+    (bind-go payload_config _ (found w h₆₄ h₅₂ settings e (omega arith) ∙ ap (λ (o : ℕ). got (compact_config x) o) i)
     (bind-go position _ (at-go s e z)
     (bind-go (variable_bits 8 2) _ (size-found (word-window s z) (lit≤ tt) e (lit≤ tt) some (omega arith) ∙ ap (λ (o : ℕ). got n o) j)
     (bind-go position _ (at-go s e b)
@@ -75,7 +74,7 @@ module _ (s : List ℕ) (c : BitCursor) where
   there : (k : ℕ) → 0 < k → k ≤ bits_remaining s c → p + k ≤ bit_limit s e
   there k h l = omega (arith, remaining-limit s e p)
 
-  compact-end : eqb (top 5 x) 0 ≡ true → 5 ≤ bits_remaining s c → step_at s c ≡ PayloadStep.End (cursor_at e (p + 5))
+  compact-end : eqb (top 5 x) 0 ≡ true → 5 ≤ bits_remaining s c → step_at s c ≡ Ok (None, cursor_at e (p + 5))
   unfolding next_payload next_answer next_step
   compact-end z l =
       ap (next_answer e)
@@ -87,7 +86,7 @@ module _ (s : List ℕ) (c : BitCursor) where
   abbrev payload : CompactPayload
   payload = record { word = x; head = grouped_head x; size = size_length y; length = n }
 
-  compact-found : eqb (top 5 x) 0 ≡ false → 0 < head_length x → 0 < size_length y → n ≤ bits_remaining s c → step_at s c ≡ PayloadStep.Payload (compact_record payload p) (cursor_at e (p + n))
+  compact-found : eqb (top 5 x) 0 ≡ false → 0 < head_length x → 0 < size_length y → n ≤ bits_remaining s c → step_at s c ≡ Ok (Some (compact_record payload p), cursor_at e (p + n))
   unfolding next_payload next_answer next_step
   compact-found z h k l =
       let d = head_of x z h in

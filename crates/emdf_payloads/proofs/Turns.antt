@@ -3,9 +3,11 @@ use mathlib.Core.Path.{◌≡◌, sym, ap, ◌∙◌}
 use mathlib.Core.List.{List, [], ◌∷◌}
 use Prim.Native.Nat.{ℕ, suc, ◌-◌, ◌≤◌, ◌<◌}
 use native.Mathlib.Omega.{arith}
+use Rattle.std.specs.Prelude.{Some, None, Ok, Err}
 use Rattle.openjoc_bitio.specs.Cursor.{bits_remaining}
 use Rattle.openjoc_bitio.specs.declared.BitCursor.{BitCursor}
-use Rattle.emdf_format.specs.Reader.{Read, got, refused, Reader, ◌>>=◌, give, cursor_at}
+use Rattle.openjoc_bitio.proofs.Results.{some-same, none-same, some-is-not-none, none-is-not-some, err-is-not-ok}
+use Rattle.emdf_format.specs.Reader.{Read, got, refused, Reader, ◌>>=◌, give}
 use Rattle.emdf_format.specs.Reading.{Found as Payload, payloads}
 use Rattle.emdf_format.specs.declared.EmdfError.{EmdfError}
 use Rattle.emdf_format.specs.declared.PayloadRecord.{PayloadRecord}
@@ -14,27 +16,25 @@ use Rattle.emdf_format.proofs.Payloads.{at-inv, id-law}
 use Rattle.emdf_format.proofs.Lengths.{length-extended}
 use Rattle.emdf_format.proofs.Loops.{payloads-enough, after-moves, id-moves}
 use Rattle.emdf_payloads.specs.Payloads.{NextPayload, ended, found, next_payload, next_step, next_answer}
-use Rattle.emdf_payloads.specs.declared.PayloadStep.TheVariants as PayloadStep
 use Rattle.emdf_fields.proofs.Answers.{Found}
 
 -- ---- what a turn's answer says
 
-pub ended_is : {e : ℕ} (y : Read NextPayload) {c : BitCursor} → next_answer e y ≡ PayloadStep.End c → Found y e ended c
+pub ended_is : {e : ℕ} (y : Read NextPayload) {c : BitCursor} → next_answer e y ≡ Ok (None, c) → Found y e ended c
 unfolding next_answer next_step
-ended_is {e} (got ended q) {c} h = let b : cursor_at e q ≡ c = cc in record { is = rw (← b); end = rw (← b) }
-ended_is (got (found x) q) h = absurd (let w : ◌≡◌ {A = ℕ} 0 1 = cc in omega arith)
-ended_is (refused why q) h = absurd (let w : ◌≡◌ {A = ℕ} 0 1 = cc in omega arith)
+ended_is (got ended q) h = let b = none-same h in record { is = rw (← b); end = rw (← b) }
+ended_is (got (found x) q) h = absurd (some-is-not-none h)
+ended_is (refused why q) h = absurd (err-is-not-ok h)
 
-pub found-is : (e : ℕ) (y : Read NextPayload) {r : PayloadRecord} {c : BitCursor} → next_answer e y ≡ PayloadStep.Payload r c → (x : Payload) × (x.record_of ≡ r) × Found y e (found x) c
+pub found-is : (e : ℕ) (y : Read NextPayload) {r : PayloadRecord} {c : BitCursor} → next_answer e y ≡ Ok (Some r, c) → (x : Payload) × (x.record_of ≡ r) × Found y e (found x) c
 unfolding next_answer next_step
-found-is e (got ended q) h = absurd (let w : ◌≡◌ {A = ℕ} 0 1 = cc in omega arith)
-found-is e (got (found x) q) {r} {c} h =
-    let a : x.record_of ≡ r = cc in
-    let b : cursor_at e q ≡ c = cc in
-    (x, a, record { is = rw (← b); end = rw (← b) })
-found-is e (refused why q) h = absurd (let w : ◌≡◌ {A = ℕ} 0 1 = cc in omega arith)
+found-is e (got ended q) h = absurd (none-is-not-some h)
+found-is e (got (found x) q) h =
+    let p = some-same h in
+    (x, p.0, record { is = rw (← p.1); end = rw (← p.1) })
+found-is e (refused why q) h = absurd (err-is-not-ok h)
 
-pub refused-is : (e : ℕ) (y : Read NextPayload) {why : EmdfError} → next_answer e y ≡ PayloadStep.Refused why → (q : ℕ) × (y ≡ refused why q)
+pub refused-is : (e : ℕ) (y : Read NextPayload) {why : EmdfError} → next_answer e y ≡ Err why → (q : ℕ) × (y ≡ refused why q)
 unfolding next_answer next_step
 refused-is e (got ended q) h = absurd (let w : ◌≡◌ {A = ℕ} 0 1 = cc in omega arith)
 refused-is e (got (found x) q) h = absurd (let w : ◌≡◌ {A = ℕ} 0 1 = cc in omega arith)
@@ -92,7 +92,7 @@ module _ (s : List ℕ) (at : BitCursor) where
     pub moves : p < c.position
     pub less : bits_remaining s c < bits_remaining s at
 
-  pub at-payload : {r : PayloadRecord} {c : BitCursor} → next_answer e (next_payload s e p) ≡ PayloadStep.Payload r c → Onward c
+  pub at-payload : {r : PayloadRecord} {c : BitCursor} → next_answer e (next_payload s e p) ≡ Ok (Some r, c) → Onward c
   at-payload {r} {c} h =
       let (x, i, d) = found-is e (next_payload s e p) h in
       let m = moves s e p c.position x d.is in

@@ -1,23 +1,23 @@
 -- The payloads of a list that is read, one after another, as a caller of next_payload meets them. Assumes nothing.
-use mathlib.Core.Path.{◌≡◌, refl, sym, ◌∙◌}
+use mathlib.Core.Path.{◌≡◌, refl, sym, ap, ◌∙◌}
 use mathlib.Core.List.{List, [], ◌∷◌}
 use Prim.Native.Nat.{ℕ, zero, suc, ◌<◌}
 use native.Mathlib.Omega.{arith}
+use Rattle.std.specs.Prelude.{Option, Some, None, Result, Ok, Err}
 use Rattle.openjoc_bitio.specs.declared.BitCursor.{BitCursor}
+use Rattle.openjoc_bitio.proofs.Results.{some-same, none-same, some-is-not-none, none-is-not-some, err-is-not-ok}
 use Rattle.emdf_format.specs.Reader.{got, cursor_at}
 use Rattle.emdf_format.specs.declared.EmdfError.{EmdfError}
 use Rattle.emdf_format.specs.declared.PayloadRecord.{PayloadRecord}
 use Rattle.emdf_format.specs.Reading.{Found, payloads}
 use Rattle.emdf_format.proofs.Standing.{taken, bind_inv, ask-inv, asked, give-inv}
 use Rattle.emdf_payloads.specs.Payloads.{NextPayload, ended, found, next_payload, next_step, next_answer, skip_of, Listed, step_at}
-use Rattle.emdf_payloads.specs.declared.PayloadStep.{PayloadStep}
-use Rattle.emdf_payloads.specs.declared.SkipStep.TheVariants as SkipStep
 use Rattle.emdf_payloads.proofs.Turns.{rest, payloads-turn, moves}
 
 -- the payload x, and after it the payloads xs, from the cursor next on
 pub record Stepped (s : List ℕ) (c : BitCursor) (x : Found) (xs : List Found) : Type 0 where
   pub next : BitCursor
-  pub is : next_answer c.end (next_payload s c.end c.position) ≡ PayloadStep.Payload x.record_of next
+  pub is : next_answer c.end (next_payload s c.end c.position) ≡ Ok (Some x.record_of, next)
   pub end : next.end ≡ c.end
   pub listed : Listed s next xs
   pub moves : c.position < next.position
@@ -46,15 +46,15 @@ module _ (s : List ℕ) (c : BitCursor) where
               let b : ys ≡ xs = cc d.what in
               record { next = cursor_at e q; is = rw (h₁, a); end = refl; listed = record { bound = n; to = q₂; is = rw b at h₂ }; moves = (moves s e p q y h₁).0 }
 
-  pub listed-end : Listed s c [] → (next : BitCursor) × (next_answer e (next_payload s e p) ≡ PayloadStep.End next)
+  pub listed-end : Listed s c [] → (next : BitCursor) × (next_answer e (next_payload s e p) ≡ Ok (None, next))
   unfolding payloads rest next_answer next_step
   listed-end l = go l.bound l.is
     where
-      go : (n : ℕ) → payloads n s e p ≡ got [] l.to → (next : BitCursor) × (next_answer e (next_payload s e p) ≡ PayloadStep.End next)
+      go : (n : ℕ) → payloads n s e p ≡ got [] l.to → (next : BitCursor) × (next_answer e (next_payload s e p) ≡ Ok (None, next))
       go zero h = asked (ask-inv h) λ f t. absurd f
       go (suc n) h = taken (bind_inv (sym (payloads-turn n s e p) ∙ h)) by_turn
         where
-          by_turn : (t : NextPayload) (q : ℕ) → next_payload s e p ≡ got t q → rest n t s e q ≡ got [] l.to → (next : BitCursor) × (next_answer e (next_payload s e p) ≡ PayloadStep.End next)
+          by_turn : (t : NextPayload) (q : ℕ) → next_payload s e p ≡ got t q → rest n t s e q ≡ got [] l.to → (next : BitCursor) × (next_answer e (next_payload s e p) ≡ Ok (None, next))
           by_turn ended q h₁ t₁ = (cursor_at e q, rw h₁)
           by_turn (found y) q h₁ t₁ =
               taken (bind_inv t₁) λ ys q₂ h₂ t₂.
@@ -72,40 +72,38 @@ pub record First (s : List ℕ) (c next : BitCursor) (r : PayloadRecord) (xs : L
   pub listed : Listed s next others
 
 module _ (s : List ℕ) (c : BitCursor) where
-  pub step-found : {r : PayloadRecord} {next : BitCursor} (xs : List Found) → Listed s c xs → step_at s c ≡ PayloadStep.Payload r next → First s c next r xs
-  step-found [] l h = let (d, e) = listed-end s c l in absurd (let w : ◌≡◌ {A = ℕ} 0 1 = cc in omega arith)
-  step-found {r} {next} (x ∷ xs) l h =
+  pub step-found : {r : PayloadRecord} {next : BitCursor} (xs : List Found) → Listed s c xs → step_at s c ≡ Ok (Some r, next) → First s c next r xs
+  step-found [] l h = let (d, e) = listed-end s c l in absurd (none-is-not-some (sym e ∙ h))
+  step-found (x ∷ xs) l h =
       let d = listed-step s c x xs l in
-      let i : PayloadStep.Payload x.record_of d.next ≡ PayloadStep.Payload r next = sym d.is ∙ h in
-      let a : x.record_of ≡ r = cc in
-      let b : d.next ≡ next = cc in
-      record { first = x; others = xs; is = refl; record_is = a; end = rw (← b) d.end; listed = rw b at d.listed }
+      let p = some-same (sym d.is ∙ h) in
+      record { first = x; others = xs; is = refl; record_is = p.0; end = rw (← p.1) d.end; listed = rw p.1 at d.listed }
 
-  pub step-ended : {next : BitCursor} (xs : List Found) → Listed s c xs → step_at s c ≡ PayloadStep.End next → xs ≡ []
+  pub step-ended : {next : BitCursor} (xs : List Found) → Listed s c xs → step_at s c ≡ Ok (None, next) → xs ≡ []
   step-ended [] l h = refl
-  step-ended (x ∷ xs) l h = let d = listed-step s c x xs l in absurd (let w : ◌≡◌ {A = ℕ} 0 1 = cc d.is in omega arith)
+  step-ended (x ∷ xs) l h = absurd (some-is-not-none (sym (listed-step s c x xs l).is ∙ h))
 
   -- no payload of a list that is read is refused
-  pub step-refused : {why : EmdfError} (xs : List Found) → Listed s c xs → step_at s c ≡ PayloadStep.Refused why → ⊥
+  pub step-refused : {why : EmdfError} (xs : List Found) → Listed s c xs → step_at s c ≡ Err why → ⊥
   step-refused [] l h = let (d, e) = listed-end s c l in let w : ◌≡◌ {A = ℕ} 0 1 = cc in omega arith
   step-refused (x ∷ xs) l h = let d = listed-step s c x xs l in let w : ◌≡◌ {A = ℕ} 0 1 = cc d.is in omega arith
 
 -- ---- what skipping says of the step
 
-pub skip-past : {id : ℕ} {next : BitCursor} (x : PayloadStep) → skip_of x ≡ SkipStep.Past id next → (r : PayloadRecord) × (x ≡ PayloadStep.Payload r next) × (r.id ≡ id)
+pub skip-past : {id : ℕ} {next : BitCursor} (x : Result (Option PayloadRecord × BitCursor) EmdfError) → skip_of x ≡ Ok (Some id, next) → (r : PayloadRecord) × (x ≡ Ok (Some r, next)) × (r.id ≡ id)
 unfolding skip_of
-skip-past (PayloadStep.Payload r c) h = (r, cc, cc)
-skip-past (PayloadStep.End c) h = absurd (let w : ◌≡◌ {A = ℕ} 0 1 = cc in omega arith)
-skip-past (PayloadStep.Refused why) h = absurd (let w : ◌≡◌ {A = ℕ} 0 1 = cc in omega arith)
+skip-past (Ok (Some r, c)) h = let p = some-same h in (r, ap {B = Result (Option PayloadRecord × BitCursor) EmdfError} (λ (k : BitCursor). Ok (Some r, k)) p.1, p.0)
+skip-past (Ok (None, c)) h = absurd (none-is-not-some h)
+skip-past (Err why) h = absurd (err-is-not-ok h)
 
-pub skip-end : {next : BitCursor} (x : PayloadStep) → skip_of x ≡ SkipStep.End next → x ≡ PayloadStep.End next
+pub skip-end : {next : BitCursor} (x : Result (Option PayloadRecord × BitCursor) EmdfError) → skip_of x ≡ Ok (None, next) → x ≡ Ok (None, next)
 unfolding skip_of
-skip-end (PayloadStep.Payload r c) h = absurd (let w : ◌≡◌ {A = ℕ} 0 1 = cc in omega arith)
-skip-end (PayloadStep.End c) h = cc
-skip-end (PayloadStep.Refused why) h = absurd (let w : ◌≡◌ {A = ℕ} 0 1 = cc in omega arith)
+skip-end (Ok (Some r, c)) h = absurd (some-is-not-none h)
+skip-end (Ok (None, c)) h = ap {B = Result (Option PayloadRecord × BitCursor) EmdfError} (λ (k : BitCursor). Ok (None, k)) (none-same h)
+skip-end (Err why) h = absurd (err-is-not-ok h)
 
-pub skip-refused : {why : EmdfError} (x : PayloadStep) → skip_of x ≡ SkipStep.Refused why → x ≡ PayloadStep.Refused why
+pub skip-refused : {why : EmdfError} (x : Result (Option PayloadRecord × BitCursor) EmdfError) → skip_of x ≡ Err why → x ≡ Err why
 unfolding skip_of
-skip-refused (PayloadStep.Payload r c) h = absurd (let w : ◌≡◌ {A = ℕ} 0 1 = cc in omega arith)
-skip-refused (PayloadStep.End c) h = absurd (let w : ◌≡◌ {A = ℕ} 0 1 = cc in omega arith)
-skip-refused (PayloadStep.Refused why) h = cc
+skip-refused (Ok (Some r, c)) h = absurd (let w : ◌≡◌ {A = ℕ} 0 1 = cc in omega arith)
+skip-refused (Ok (None, c)) h = absurd (let w : ◌≡◌ {A = ℕ} 0 1 = cc in omega arith)
+skip-refused (Err why) h = cc

@@ -1,6 +1,8 @@
 -- What stands at a position, where a word holds its head and another its size: the end mark, or a compact payload. Assumes nothing.
-use Rattle.std.specs.Prelude.{false, List, ◌≡◌, ℕ, ◌+◌, ◌*◌, ◌/◌, ◌%◌, ◌^◌, ◌<◌, eqb, if◌then◌else◌}
+use Rattle.std.specs.Prelude.{false, List, ◌≡◌, ℕ, ◌+◌, ◌*◌, ◌/◌, ◌%◌, ◌^◌, ◌<◌, eqb, if◌then◌else◌, Option, Some, None, Result, Ok}
+use Rattle.openjoc_bitio.specs.declared.BitCursor.{BitCursor}
 use Rattle.openjoc_bitio.specs.Bits.{window_at}
+use Rattle.emdf_format.specs.declared.EmdfError.{EmdfError}
 use Rattle.emdf_format.specs.Reader.{cursor_at}
 use Rattle.emdf_format.specs.Reading.{trace_of}
 use Rattle.emdf_format.specs.declared.PayloadRecord.{PayloadRecord}
@@ -8,7 +10,6 @@ use Rattle.emdf_fields.specs.Word.{top, after}
 use Rattle.emdf_compact.specs.Words.{compact_config, head_length, grouped_head, size_length, size_value}
 use Rattle.emdf_payloads.specs.Payloads.{step_at, record_groups}
 use Rattle.emdf_payloads.specs.declared.CompactPayload.{CompactPayload}
-use Rattle.emdf_payloads.specs.declared.PayloadStep.{PayloadStep}
 
 -- the words that hold the head of what stands at p, and the size after it
 abbrev pub head_at : List ℕ → ℕ → ℕ
@@ -46,11 +47,11 @@ unfoldable pub compact_groups : ℕ → ℕ → ℕ
 compact_groups head size = if eqb size 18 then 2 else 1 + head / 128
 
 -- what stands at p, before the end e
-unfoldable pub compact_step : CompactPayload → ℕ → ℕ → PayloadStep
+unfoldable pub compact_step : CompactPayload → ℕ → ℕ → Result (Option PayloadRecord × BitCursor) EmdfError
 compact_step c e p =
     if eqb (top 5 c.word) 0
-    then PayloadStep.End (cursor_at e (p + c.length))
-    else PayloadStep.Payload (compact_record c p) (cursor_at e (p + c.length))
+    then Ok (None, cursor_at e (p + c.length))
+    else Ok (Some (compact_record c p), cursor_at e (p + c.length))
 
 -- c is what stands at p, all of it before the end e, if it has any bits; and no sum of its parts is too large
 pub record CompactAt (s : List ℕ) (e p : ℕ) (c : CompactPayload) : Type 0 where

@@ -8,26 +8,8 @@ ghost use Rattle.emdf_compact.specs.Words.{compact_settings, config_length};
 ghost use Rattle.emdf_payloads.specs.Compact.{CompactAt, SizeWord, compact_parts, not_compact, compact_record};
 ghost use Rattle.emdf_payloads.specs.Payloads.{payload_answer, skip_of, step_at};
 
-use emdf_fields::{CountAnswer, FieldAnswer};
 use emdf_format::{EmdfError, EmdfPayloadBitTrace, MAX_SIZE_GROUPS, PayloadRecord};
-use emdf_settings::ConfigAnswer;
 use openjoc_bitio::{BitCursor, BitOffset};
-
-// What stands next in the list of payloads: a payload, or the id 0 that ends it.
-#[derive(Clone, Copy)]
-pub enum PayloadStep {
-    Payload(PayloadRecord, BitCursor),
-    End(BitCursor),
-    Refused(EmdfError),
-}
-
-// The same, of a payload only its id.
-#[derive(Clone, Copy)]
-pub enum SkipStep {
-    Past(u64, BitCursor),
-    End(BitCursor),
-    Refused(EmdfError),
-}
 
 // The end mark or a compact payload: the word that holds its head, how many bits its head takes, with emdf_compact's mark of a
 // group id of two groups, and how many its size and all of it.
@@ -40,7 +22,12 @@ pub struct CompactPayload {
 }
 
 // A payload after its id, which starts at bit start: its settings, its size, and past its body.
-fn payload_after(s: &[u8], c: BitCursor, start: usize, id: u64) -> PayloadStep
+fn payload_after(
+    s: &[u8],
+    c: BitCursor,
+    start: usize,
+    id: u64,
+) -> Result<(Option<PayloadRecord>, BitCursor), EmdfError>
     ensures { result ≡ payload_answer c.end (payload_after start id s.now c.end c.position) }
 {
     let position = c.position;
@@ -65,7 +52,7 @@ fn after_compact(
     end: usize,
     start: usize,
     id: u64,
-) -> PayloadStep
+) -> Result<(Option<PayloadRecord>, BitCursor), EmdfError>
     requires { (position < 2 ^ 61) × (x ≡ window_at s.now position) × (compact_settings x ≡ true) × (config ≡ config_length x) }
     ensures { result ≡ payload_answer end (payload_after start id s.now end position) }
 {
@@ -82,34 +69,36 @@ fn after_compact(
                 position: past,
                 end,
             };
-            return PayloadStep::Payload(PayloadRecord { id, config, trace }, next);
+            return Ok((Some(PayloadRecord { id, config, trace }), next));
         }
     }
     after_by_fields(s, BitCursor { position, end }, start, id)
 }
 
 // The same field by field.
-fn after_by_fields(s: &[u8], c: BitCursor, start: usize, id: u64) -> PayloadStep
+fn after_by_fields(
+    s: &[u8],
+    c: BitCursor,
+    start: usize,
+    id: u64,
+) -> Result<(Option<PayloadRecord>, BitCursor), EmdfError>
     ensures { result ≡ payload_answer c.end (payload_after start id s.now c.end c.position) }
 {
-    let a1 = emdf_settings::payload_config(s, c);
-    let ConfigAnswer::Config(config, c1) = a1 else {
-        return PayloadStep::Refused(emdf_settings::config_error(a1));
-    };
-    let a2 = emdf_fields::variable_field(s, c1, 8, MAX_SIZE_GROUPS);
-    let FieldAnswer::Value(size, c2) = a2 else {
-        return PayloadStep::Refused(emdf_fields::field_error(a2));
-    };
-    let a3 = emdf_fields::skip_octets(s, c2, size);
-    let CountAnswer::Counted(_, c3) = a3 else {
-        return PayloadStep::Refused(emdf_fields::count_error(a3));
-    };
+    let (config, c1) = emdf_settings::payload_config(s, c)?;
+    let (size, c2) = emdf_fields::variable_field(s, c1, 8, MAX_SIZE_GROUPS)?;
+    let (_, c3) = emdf_fields::skip_octets(s, c2, size)?;
     let trace = bit_trace(start, c.position, c1.position, c2.position, c3.position);
-    PayloadStep::Payload(PayloadRecord { id, config, trace }, c3)
+    Ok((Some(PayloadRecord { id, config, trace }), c3))
 }
 
 // The parts of a payload adjoin: each ends where the next one starts.
-fn bit_trace(id: usize, config: usize, size: usize, body: usize, end: usize) -> EmdfPayloadBitTrace
+pub fn bit_trace(
+    id: usize,
+    config: usize,
+    size: usize,
+    body: usize,
+    end: usize,
+) -> EmdfPayloadBitTrace
     ensures { result ≡ trace_of id config size body end }
 {
     EmdfPayloadBitTrace {
@@ -124,8 +113,8 @@ fn bit_trace(id: usize, config: usize, size: usize, body: usize, end: usize) -> 
     }
 }
 
-// The next payload, or the end of the list.
-pub fn next_payload(s: &[u8], c: BitCursor) -> PayloadStep
+// The next payload, or None at the id 0 that ends the list; and the cursor past it.
+pub fn next_payload(s: &[u8], c: BitCursor) -> Result<(Option<PayloadRecord>, BitCursor), EmdfError>
     ensures { result ≡ step_at s.now c }
 {
     let position = c.position;
@@ -139,20 +128,21 @@ pub fn next_payload(s: &[u8], c: BitCursor) -> PayloadStep
         end,
     };
     if found.word >> 59 == 0 {
-        return PayloadStep::End(next);
+        return Ok((None, next));
     }
-    PayloadStep::Payload(compact_record(found, position), next)
+    Ok((Some(compact_record(found, position)), next))
 }
 
-// Past the next payload, for a caller who wants no record of it.
-pub fn skip_payload(s: &[u8], c: BitCursor) -> SkipStep
+// The same with the payload's id alone, for a caller who wants no record of it.
+pub fn skip_payload(s: &[u8], c: BitCursor) -> Result<(Option<u64>, BitCursor), EmdfError>
     ensures { result ≡ skip_of (step_at s.now c) }
 {
     let position = c.position;
     let end = c.end;
     let found = compact_at(s, position, end);
     if found.length == 0 {
-        return skipped(payload_by_fields(s, BitCursor { position, end }));
+        let (payload, next) = payload_by_fields(s, BitCursor { position, end })?;
+        return Ok((payload.map(|record| record.id), next));
     }
     let next = BitCursor {
         position: position + found.length,
@@ -160,9 +150,9 @@ pub fn skip_payload(s: &[u8], c: BitCursor) -> SkipStep
     };
     let id = found.word >> 59;
     if id == 0 {
-        return SkipStep::End(next);
+        return Ok((None, next));
     }
-    SkipStep::Past(id, next)
+    Ok((Some(id), next))
 }
 
 // The end mark or a compact payload that stands at a position, all of it before the end; else no bits at all.
@@ -252,27 +242,17 @@ pub fn compact_record(c: CompactPayload, position: usize) -> PayloadRecord
     }
 }
 
-// The next payload, or the end of the list, field by field.
-pub fn payload_by_fields(s: &[u8], c: BitCursor) -> PayloadStep
+// The next payload as next_payload answers it, field by field.
+pub fn payload_by_fields(
+    s: &[u8],
+    c: BitCursor,
+) -> Result<(Option<PayloadRecord>, BitCursor), EmdfError>
     ensures { result ≡ step_at s.now c }
 {
     let start = c.position;
-    let a = emdf_fields::extended_value(s, c, 31, 5);
-    let FieldAnswer::Value(id, c1) = a else {
-        return PayloadStep::Refused(emdf_fields::field_error(a));
-    };
+    let (id, c1) = emdf_fields::extended_value(s, c, 31, 5)?;
     if id == 0 {
-        return PayloadStep::End(c1);
+        return Ok((None, c1));
     }
     payload_after(s, c1, start, id)
-}
-
-fn skipped(step: PayloadStep) -> SkipStep
-    ensures { result ≡ skip_of step }
-{
-    match step {
-        PayloadStep::Payload(record, next) => SkipStep::Past(record.id, next),
-        PayloadStep::End(next) => SkipStep::End(next),
-        PayloadStep::Refused(why) => SkipStep::Refused(why),
-    }
 }

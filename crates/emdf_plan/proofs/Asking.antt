@@ -7,7 +7,7 @@ use native.Mathlib.Omega.{arith}
 use lib.ListN.{length}
 use lib.Dec.{leb}
 use borrow.Author.Tests.{eq-eqb, ne_eqb, le-leb, lt-leb}
-use Rattle.std.specs.Prelude.{if◌then◌else◌}
+use Rattle.std.specs.Prelude.{if◌then◌else◌, Ok, Err}
 use Rattle.emdf_format.specs.declared.EmdfError.{EmdfError}
 use Rattle.emdf_format.specs.declared.EditError.TheVariants.{Emdf, TrailingData, NoSuchPlace, NotWritable, TooLong, DestinationTooShort}
 use Rattle.emdf_format.specs.Syntax.{most_declared}
@@ -22,7 +22,6 @@ use Rattle.emdf_request.specs.declared.Brought.{Brought}
 use Rattle.emdf_request.specs.Requests.{edit_of, stretch_of, bringing}
 use Rattle.emdf_request.proofs.Requests.{change-writable, length-new}
 use Rattle.emdf_plan.specs.declared.Layout.{Layout}
-use Rattle.emdf_plan.specs.declared.Plan.TheVariants.{Splice, Refused}
 use Rattle.emdf_plan.specs.Plan.{layout_of, CutIn, cut_at, planned, laid, plan_from, plan_of, size_after, measure}
 use Rattle.emdf_plan.proofs.Cutting.{Cutting, splice-lengths, protected-end, as_many, cutting}
 use Rattle.emdf_plan.proofs.Opening.{end-limit}
@@ -30,15 +29,15 @@ use Rattle.emdf_plan.proofs.Opening.{end-limit}
 -- ---- 18 and 19
 
 module _ (x : Stretch) (l : Layout) (b : Brought) (room : ℕ) where
-  pub too_long : (n : ℕ) → n ≡ size_after x l b → most_declared < n → Refused TooLong ≡ measure x l b room
+  pub too_long : (n : ℕ) → n ≡ size_after x l b → most_declared < n → Err TooLong ≡ measure x l b room
   unfolding measure
   too_long n e h = rw (← e, lt-leb n most_declared h)
 
-  pub no_room : (n : ℕ) → n ≡ size_after x l b → n ≤ most_declared → room < 4 + n → Refused (DestinationTooShort (record { 0 = 4 + n })) ≡ measure x l b room
+  pub no_room : (n : ℕ) → n ≡ size_after x l b → n ≤ most_declared → room < 4 + n → Err (DestinationTooShort (record { 0 = 4 + n })) ≡ measure x l b room
   unfolding measure
   no_room n e h k = rw (← e, le-leb n most_declared h, lt-leb (4 + n) room k)
 
-  pub in-room : (n : ℕ) → n ≡ size_after x l b → n ≤ most_declared → 4 + n ≤ room → Splice (cut_at x l n) ≡ measure x l b room
+  pub in-room : (n : ℕ) → n ≡ size_after x l b → n ≤ most_declared → 4 + n ≤ room → Ok (cut_at x l n) ≡ measure x l b room
   unfolding measure
   in-room n e h k = rw (← e, le-leb n most_declared h, le-leb (4 + n) room k)
 
@@ -87,17 +86,17 @@ planned-if true o o' x l = refl
 planned-if false o o' x l = refl
 
 module _ (q : Request) (a b : List ℕ) (s : List ℕ) (room : ℕ) where
-  pub unread : {why : EmdfError} → reading s ≡ refusal why → Refused (Emdf why) ≡ plan_of q a b s room
+  pub unread : {why : EmdfError} → reading s ≡ refusal why → Err (Emdf why) ≡ plan_of q a b s room
   unfolding plan_of plan_from
   unread h = rw h
 
   module _ {n : ℕ} {k : Container} (h : reading s ≡ accepted n k) where
-    pub trailing : (n ≡ length s → ⊥) → Refused TrailingData ≡ plan_of q a b s room
+    pub trailing : (n ≡ length s → ⊥) → Err TrailingData ≡ plan_of q a b s room
     unfolding plan_of plan_from step_from planned
     trailing z = rw (h, ne_eqb n (length s) z)
 
     module _ (whole : n ≡ length s) where
-      pub no_place : place_exists (edit_of q a b) (length k.found) ≡ false → Refused NoSuchPlace ≡ plan_of q a b s room
+      pub no_place : place_exists (edit_of q a b) (length k.found) ≡ false → Err NoSuchPlace ≡ plan_of q a b s room
       unfolding plan_of plan_from step_from step planned
       no_place p = rw (h, eq-eqb n (length s) whole, as_many, p)
 
@@ -114,7 +113,7 @@ module _ (q : Request) (a b : List ℕ) (s : List ℕ) (room : ℕ) where
             let p : place_exists (edit_of q a b) (length (payloads_of k.found)) ≡ true = rw as_many there in
             rw (h, eq-eqb n (length s) whole, p, change-writable (contents_of k) (read-contained s n k h).1.fit q a b p)
 
-        pub not-writable : brought.writable ≡ false → Refused NotWritable ≡ plan_of q a b s room
+        pub not-writable : brought.writable ≡ false → Err NotWritable ≡ plan_of q a b s room
         unfolding planned
         not-writable w = sym (asked ∙ rw w)
 

@@ -7,7 +7,7 @@ use native.Mathlib.Omega.{arith}
 use lib.ListN.{length}
 use lib.Seq.{take_at, drop_at}
 use lib.Dec.{eqb, eqb→eq}
-use Rattle.std.specs.Prelude.{if◌then◌else◌}
+use Rattle.std.specs.Prelude.{if◌then◌else◌, Ok, Err}
 use Rattle.openjoc_bitio.specs.Bits.{number_bits}
 use Rattle.openjoc_bitio.proofs.Bits.{length-number}
 use Rattle.emdf_format.specs.declared.EditError.{EditError}
@@ -27,7 +27,6 @@ use Rattle.emdf_request.specs.declared.Stretch.{Stretch}
 use Rattle.emdf_plan.specs.declared.Layout.{Layout}
 use Rattle.emdf_request.specs.declared.Request.{Request}
 use Rattle.emdf_request.specs.Requests.{edit_of, stretch_of, new_bits}
-use Rattle.emdf_plan.specs.declared.Plan.TheVariants.{Splice, Refused}
 use Rattle.emdf_plan.specs.Plan.{laid, cut_at, planned, plan_from, plan_of, spliced}
 use Rattle.emdf_plan.proofs.Cutting.{splice-lengths, as_many, cutting}
 
@@ -83,23 +82,23 @@ pub record Spliceable (q : Request) (a b : List ℕ) (src : List ℕ) (room : �
   pub covers : (cut.from.0 - 32) + length (new_bits q a b) + (cut.kept.0 - cut.to.0) ≤ 8 * declared contents
   pub bits : spliced src cut (new_bits q a b) ≡ carrier_bits contents
 
-planned-splice : (o : Stepped) (x : Stretch) (l : Layout) {cut : Cut} → planned o x l ≡ Splice cut
+planned-splice : (o : Stepped) (x : Stretch) (l : Layout) {cut : Cut} → planned o x l ≡ Ok cut
     → (d : Contents) × (o ≡ changed d) × (cut_at x l (declared d) ≡ cut)
 unfolding planned
 planned-splice (changed d) x l h = (d, refl, cc)
 planned-splice (unchanged why) x l h = absurd (let z : ◌≡◌ {A = ℕ} 0 1 = cc in omega arith)
 
-planned-refused : (o : Stepped) (x : Stretch) (l : Layout) {why : EditError} → planned o x l ≡ Refused why → o ≡ unchanged why
+planned-refused : (o : Stepped) (x : Stretch) (l : Layout) {why : EditError} → planned o x l ≡ Err why → o ≡ unchanged why
 unfolding planned
 planned-refused (changed d) x l h = absurd (let z : ◌≡◌ {A = ℕ} 0 1 = cc in omega arith)
 planned-refused (unchanged why) x l h = cc
 
 module _ (q : Request) (a b : List ℕ) (src : List ℕ) (room : ℕ) where
-  pub plan-splice : (cut : Cut) → Bytes src → plan_of q a b src room ≡ Splice cut → Spliceable q a b src room cut
+  pub plan-splice : (cut : Cut) → Bytes src → plan_of q a b src room ≡ Ok cut → Spliceable q a b src room cut
   unfolding plan_of plan_from step_from cut_at
   plan-splice cut f h = from (reading src) refl h
     where
-      from : (r : Reading) → reading src ≡ r → plan_from r (length src) q a b room ≡ Splice cut → Spliceable q a b src room cut
+      from : (r : Reading) → reading src ≡ r → plan_from r (length src) q a b room ≡ Ok cut → Spliceable q a b src room cut
       from (refusal why) r h = absurd (let z : ◌≡◌ {A = ℕ} 0 1 = cc in omega arith)
       from (accepted n k) r h =
           let c : Contents = contents_of k in
@@ -126,10 +125,10 @@ module _ (q : Request) (a b : List ℕ) (src : List ℕ) (room : ℕ) where
             bits = rw (s, ← g.new) (spliced-carrier g.splice _ refl g.from g.to g.kept);
           })
 
-  pub plan-refused : (why : EditError) → plan_of q a b src room ≡ Refused why → step_from (reading src) (length src) (edit_of q a b) room ≡ unchanged why
+  pub plan-refused : (why : EditError) → plan_of q a b src room ≡ Err why → step_from (reading src) (length src) (edit_of q a b) room ≡ unchanged why
   unfolding plan_of plan_from step_from
   plan-refused why h = from (reading src) h
     where
-      from : (r : Reading) → plan_from r (length src) q a b room ≡ Refused why → step_from r (length src) (edit_of q a b) room ≡ unchanged why
+      from : (r : Reading) → plan_from r (length src) q a b room ≡ Err why → step_from r (length src) (edit_of q a b) room ≡ unchanged why
       from (refusal y) h = cc
       from (accepted n k) h = planned-refused _ _ _ h

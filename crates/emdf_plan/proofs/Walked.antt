@@ -4,17 +4,18 @@ use mathlib.Core.List.{List, [], ◌∷◌}
 use Prim.Native.Nat.{ℕ, zero, suc, ◌+◌, ◌-◌, ◌≤◌}
 use native.Mathlib.Omega.{arith}
 use lib.ListN.{length, drop, get_elem?}
+use Rattle.std.specs.Prelude.{Some, Ok}
 use Rattle.openjoc_bitio.specs.declared.BitCursor.{BitCursor}
+use Rattle.openjoc_bitio.proofs.Results.{some-same, none-is-not-some, err-is-not-ok}
 use Rattle.emdf_format.specs.declared.PayloadRecord.{PayloadRecord}
 use Rattle.emdf_format.specs.Contents.{needed_payload, needed_payloads}
-use Rattle.emdf_format.specs.Reader.{Read, got, refused, cursor_at}
+use Rattle.emdf_format.specs.Reader.{Read, got, refused}
 use Rattle.emdf_format.specs.Reading.{Found, payload_after, payload_of, payloads_of}
 use Rattle.emdf_format.proofs.Standing.{taken, chosen, bind_inv, choose-inv, give-inv, stands-to}
 use Rattle.emdf_format.proofs.Payloads.{Traced, more, spans-stand, at-inv, payloads-sound}
 use Rattle.emdf_format.proofs.Lengths.{length-payload}
 use Rattle.emdf_format.proofs.Spans.{body_end}
 use Rattle.emdf_payloads.specs.Payloads.{NextPayload, ended, found, next_payload, next_step, next_answer, skip_of, Listed, step_at}
-use Rattle.emdf_payloads.specs.declared.PayloadStep.TheVariants as PayloadStep
 use Rattle.emdf_payloads.proofs.Walk.{listed-step, listed-end}
 use Rattle.emdf_plan.specs.Plan.{trace_at}
 use Rattle.emdf_plan.specs.Walking.{past_step, past_payloads, placed_at}
@@ -36,16 +37,15 @@ after-end p₀ id s e p h =
     ap body_end (sym g.what) ∙ sym z.is ∙ z.to ∙ g.to
 
 -- the cursor past a payload is where its body ends
-step_end : (s : List ℕ) (c : BitCursor) {r : PayloadRecord} {next : BitCursor} → step_at s c ≡ PayloadStep.Payload r next → r.trace.payload_body_end_bit.0 ≡ next.position
+step_end : (s : List ℕ) (c : BitCursor) {r : PayloadRecord} {next : BitCursor} → step_at s c ≡ Ok (Some r, next) → r.trace.payload_body_end_bit.0 ≡ next.position
 unfolding next_payload next_answer next_step
 step_end s c {r} {next} h = go (next_payload s c.end c.position) refl h
   where
-    go : (y : Read NextPayload) → next_payload s c.end c.position ≡ y → next_answer c.end y ≡ PayloadStep.Payload r next → r.trace.payload_body_end_bit.0 ≡ next.position
-    go (got ended q) i h = absurd (let w : ◌≡◌ {A = ℕ} 0 1 = cc in omega arith)
-    go (refused why q) i h = absurd (let w : ◌≡◌ {A = ℕ} 0 1 = cc in omega arith)
+    go : (y : Read NextPayload) → next_payload s c.end c.position ≡ y → next_answer c.end y ≡ Ok (Some r, next) → r.trace.payload_body_end_bit.0 ≡ next.position
+    go (got ended q) i h = absurd (none-is-not-some h)
+    go (refused why q) i h = absurd (err-is-not-ok h)
     go (got (found x) q) i h =
-        let a : x.record_of ≡ r = cc in
-        let b : cursor_at c.end q ≡ next = cc in
+        let (a, b) = some-same h in
         taken (bind_inv i) λ p₀ q₀ h₀ t₀.
         taken (bind_inv t₀) λ id p₁ h₁ t₁.
         chosen (choose-inv t₁)

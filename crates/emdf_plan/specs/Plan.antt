@@ -1,9 +1,10 @@
 -- Where an edit cuts its source. Assumes nothing.
-use Rattle.std.specs.Prelude.{List, ℕ, ◌+◌, ◌-◌, ◌*◌, ◌/◌, ◌^◌, ◌<◌, ◌≤◌, length, leb, if◌then◌else◌}
+use Rattle.std.specs.Prelude.{List, ℕ, ◌+◌, ◌-◌, ◌*◌, ◌/◌, ◌^◌, ◌<◌, ◌≤◌, length, leb, if◌then◌else◌, Result, Ok, Err}
 use Rattle.std.proofs.Math.Option.{Option, none, some}
 use Rattle.std.proofs.Math.ListN.{get_elem?}
 use Rattle.openjoc_bitio.specs.Bits.{number_bits}
 use Rattle.openjoc_bitio.specs.declared.BitOffset.{BitOffset}
+use Rattle.emdf_format.specs.declared.EditError.{EditError}
 use Rattle.emdf_format.specs.declared.EmdfPayloadBitTrace.{EmdfPayloadBitTrace}
 use Rattle.emdf_format.specs.declared.EditError.TheVariants.{Emdf, TooLong, DestinationTooShort}
 use Rattle.emdf_format.specs.Syntax.{syncword, most_declared, ◌⨟◌}
@@ -16,9 +17,8 @@ use Rattle.emdf_request.specs.declared.Edge.{Edge}
 use Rattle.emdf_request.specs.declared.Stretch.{Stretch}
 use Rattle.emdf_request.specs.declared.Brought.{Brought}
 use Rattle.emdf_request.specs.Requests.{edit_of, stretch_of}
-use Rattle.emdf_plan.specs.Types.{Layout, Cut, Plan}
+use Rattle.emdf_plan.specs.Types.{Layout, Cut}
 use Rattle.emdf_request.specs.declared.Edge.TheVariants.{Key, First, Id, Config, Size, Next, Codes, Protection, End}
-use Rattle.emdf_plan.specs.declared.Plan.TheVariants.{Splice, Refused}
 
 -- ---- where the parts of a container stand, and the payload at place k; past the last one, the end mark
 
@@ -64,19 +64,19 @@ CutIn x l =
 unfoldable pub cut_at : Stretch → Layout → ℕ → Cut
 cut_at x l size = record { from = edge_at x.from l; to = edge_at x.to l; kept = edge_at x.kept l; size = record { 0 = size } }
 
-unfoldable pub planned : Stepped → Stretch → Layout → Plan
-planned (changed d) x l = Splice (cut_at x l (declared d))
-planned (unchanged why) x l = Refused why
+unfoldable pub planned : Stepped → Stretch → Layout → Result Cut EditError
+planned (changed d) x l = Ok (cut_at x l (declared d))
+planned (unchanged why) x l = Err why
 
 abbrev pub laid : Request → Container → Layout
 laid q c = layout_of (stretch_of q).place c
 
-unfoldable pub plan_from : Reading → ℕ → Request → List ℕ → List ℕ → ℕ → Plan
+unfoldable pub plan_from : Reading → ℕ → Request → List ℕ → List ℕ → ℕ → Result Cut EditError
 plan_from (accepted n c) len q octets secondary room =
     planned (step_from (accepted n c) len (edit_of q octets secondary) room) (stretch_of q) (laid q c)
-plan_from (refusal why) len q octets secondary room = Refused (Emdf why)
+plan_from (refusal why) len q octets secondary room = Err (Emdf why)
 
-unfoldable pub plan_of : Request → List ℕ → List ℕ → List ℕ → ℕ → Plan
+unfoldable pub plan_of : Request → List ℕ → List ℕ → List ℕ → ℕ → Result Cut EditError
 plan_of q octets secondary src room = plan_from (reading src) (length src) q octets secondary room
 
 -- the bytes that a container declares, where so many bits come in for those of a cut
@@ -84,12 +84,12 @@ unfoldable pub size_after : Stretch → Layout → Brought → ℕ
 size_after x l b = (l.end.0 - 32 - ((edge_at x.to l).0 - (edge_at x.from l).0) + (b.fields + 8 * b.octets) + 7) / 8
 
 -- 18 and 19
-unfoldable pub measure : Stretch → Layout → Brought → ℕ → Plan
+unfoldable pub measure : Stretch → Layout → Brought → ℕ → Result Cut EditError
 measure x l b room =
     let size : ℕ = size_after x l b in
     if leb size most_declared
-    then (if leb (4 + size) room then Splice (cut_at x l size) else Refused (DestinationTooShort (record { 0 = 4 + size })))
-    else Refused TooLong
+    then (if leb (4 + size) room then Ok (cut_at x l size) else Err (DestinationTooShort (record { 0 = 4 + size })))
+    else Err TooLong
 
 -- ---- the bits of the edited carrier: the header, the source's bits around the cut, zero bits to the end
 

@@ -2,4 +2,3 @@
 pub use Rattle.emdf_plan.specs.declared.Layout.{Layout}
 pub use Rattle.emdf_plan.specs.declared.Placed.{Placed}
 pub use Rattle.emdf_plan.specs.declared.Cut.{Cut}
-pub use Rattle.emdf_plan.specs.declared.Plan.{Plan}

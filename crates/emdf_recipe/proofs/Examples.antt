@@ -6,7 +6,7 @@ use Rattle.openjoc_bitio.specs.Bits.{bit_at, bits_value}
 use Rattle.emdf_format.specs.Contents.{◌&◌}
 use Rattle.emdf_format.specs.Edits.{body_edit, drop_edit, key_edit}
 use Rattle.emdf_format.specs.declared.RecipeError.TheVariants.{BrokenChain, InvalidRecord}
-use Rattle.emdf_recipe.specs.File.{record_at, record_edit, next_allowed, record_allowed, link_of, edits, wrong, prepend, follow, chain, recipe_of}
+use Rattle.emdf_recipe.specs.File.{kind_of, record_at, edit_asked, next_allowed, data_allowed, record_allowed, link_of, edits, wrong, prepend, follow, chain, recipe_of}
 
 -- the head: first index and count; a record: next index, kind, zero byte, place, offset, length
 abbrev head : ℕ → ℕ → List ℕ
@@ -34,7 +34,7 @@ pub record Files : Type 0 where
   pub key-of-seven : recipe_of (head 1 1 ++ entry 0 3 0 4 0 7) ≡ wrong InvalidRecord
 
 pub files : Files
-unfolding bit_at bits_value ◌&◌ record_at record_edit next_allowed record_allowed link_of prepend follow chain recipe_of
+unfolding bit_at bits_value ◌&◌ kind_of record_at edit_asked next_allowed data_allowed record_allowed link_of prepend follow chain recipe_of
 files = record {
   short = refl;
   nothing = refl;

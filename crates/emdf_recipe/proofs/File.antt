@@ -7,10 +7,10 @@ use native.Mathlib.Nat.{add-zero, mul-one}
 use native.Mathlib.Omega.{arith}
 use native.Mathlib.Decide.{ℕ_discrete}
 use lib.ListN.{length}
-use lib.Dec.{leb, eqb}
+use lib.Dec.{leb}
 use lib.Pow.{high}
-use borrow.Author.Tests.{ltb-true, leb-true, eqb-true, eq-eqb, ne_eqb, le-leb}
-use Rattle.std.specs.Prelude.{if◌then◌else◌}
+use borrow.Author.Tests.{ltb-true, leb-true, ne_eqb, le-leb}
+use Rattle.std.specs.Prelude.{if◌then◌else◌, Result, Ok, Err}
 use Rattle.openjoc_bitio.specs.Bits.{bits_value, window_at}
 use Rattle.openjoc_bitio.proofs.Bits.{value-split, value-range}
 use Rattle.emdf_format.specs.Contents.{◌&◌}
@@ -18,10 +18,8 @@ use Rattle.emdf_format.specs.Edits.{Edit}
 use Rattle.emdf_format.specs.declared.RecipeError.{RecipeError}
 use Rattle.emdf_format.specs.declared.RecipeError.TheVariants.{BrokenChain, InvalidRecord}
 use Rattle.emdf_recipe.specs.declared.RecipeRecord.{RecipeRecord}
-use Rattle.emdf_recipe.specs.declared.Link.{Link}
-use Rattle.emdf_recipe.specs.declared.Link.TheVariants.{Next, Broken}
-use Rattle.emdf_recipe.specs.declared.CheckAnswer.TheVariants.{Edits, Refused}
-use Rattle.emdf_recipe.specs.File.{octets_number, first_index, record_count, body_kind, drop_kind, key_kind, record_at, record_edit, next_allowed, record_allowed, link_of, Recipe, edits, wrong, prepend, follow, chain, recipe_of, edits_after, check_answer}
+use Rattle.emdf_recipe.specs.declared.RecordKind.{RecordKind}
+use Rattle.emdf_recipe.specs.File.{octets_number, first_index, record_count, record_at, record_edit, next_allowed, data_allowed, record_allowed, link_of, Recipe, edits, wrong, prepend, follow, chain, recipe_of, edits_after, check_answer}
 
 -- ---- numbers
 
@@ -55,14 +53,14 @@ pub record Linked (s : List ℕ) (count i n : ℕ) : Type 0 where
   pub next : (record_at s i).next ≡ n
 
 three : (t u v : Bool) (m n : ℕ)
-    → (if t then (if u then (if v then Next m else Broken InvalidRecord) else Broken BrokenChain) else Broken BrokenChain) ≡ Next n
+    → (if t then (if u then (if v then Ok m else Err InvalidRecord) else Err BrokenChain) else Err BrokenChain) ≡ Ok n
     → (t ≡ true) × (u ≡ true) × (v ≡ true) × (m ≡ n)
 three true true true m n h = (refl, refl, refl, cc)
 three true true false m n h = absurd (let z : ◌≡◌ {A = ℕ} 0 1 = cc in omega arith)
 three true false v m n h = absurd (let z : ◌≡◌ {A = ℕ} 0 1 = cc in omega arith)
 three false u v m n h = absurd (let z : ◌≡◌ {A = ℕ} 0 1 = cc in omega arith)
 
-pub link-next : (s : List ℕ) (count i n : ℕ) → link_of s count i ≡ Next n → Linked s count i n
+pub link-next : (s : List ℕ) (count i n : ℕ) → link_of s count i ≡ Ok n → Linked s count i n
 unfolding link_of
 link-next s count i n h =
     let (a, b, c, d) = three (leb (4 + 16 * i) (length s)) (next_allowed count i (record_at s i).next) (record_allowed (length s) (record_at s i)) (record_at s i).next n h in
@@ -77,23 +75,14 @@ otherwise : (t u : Bool) → (if t then true else u) ≡ true → t ≡ false �
 otherwise true u h k = absurd (let z : ◌≡◌ {A = ℕ} 0 1 = cc in omega arith)
 otherwise false u h k = h
 
--- what is known of a record that has data
-pub record Data (n : ℕ) (e : RecipeRecord) : Type 0 where
-  pub inside : e.offset + e.length ≤ n
-  pub key : (e.kind ≡ body_kind → ⊥) → e.length ≡ 8
+-- what is known of a record that can be run: it has a kind, and a body lies in the file
+pub has-kind : (n k : ℕ) (e : RecipeRecord) → record_allowed n e ≡ true → e.kind ≡ Err k → ⊥
+unfolding record_allowed data_allowed
+has-kind n m e h k = let y = rw k at (both _ _ h).1 in absurd (let z : ◌≡◌ {A = ℕ} 0 1 = cc in omega arith)
 
-pub has-data : (n : ℕ) (e : RecipeRecord) → record_allowed n e ≡ true → (e.kind ≡ drop_kind → ⊥) → Data n e
-unfolding record_allowed
-has-data n e h k =
-    let rest = (both _ _ h).1 in
-    let (x, y) = both _ _ (otherwise _ _ rest (ne_eqb _ _ k)) in
-    record { inside = leb-true _ _ x; key = λ l. eqb-true _ _ (both _ _ (otherwise _ _ y (ne_eqb _ _ l))).1 }
-
--- the last question, of a key
-pub allowed-key : (n : ℕ) (e : RecipeRecord) → e.zero ≡ 0 → (e.kind ≡ drop_kind → ⊥) → e.offset + e.length ≤ n → (e.kind ≡ body_kind → ⊥) → e.kind ≡ key_kind
-    → eqb e.length 8 ≡ record_allowed n e
-unfolding record_allowed ◌&◌
-allowed-key n e z d i b k = simp (eq-eqb _ _ z, ne_eqb _ _ d, le-leb _ _ i, ne_eqb _ _ b, eq-eqb _ _ k)
+pub body-inside : (n : ℕ) (e : RecipeRecord) → record_allowed n e ≡ true → e.kind ≡ Ok RecordKind.Body → e.offset + e.length ≤ n
+unfolding record_allowed data_allowed
+body-inside n e h k = leb-true _ _ (rw k at (both _ _ h).1)
 
 -- ---- the numbers rise, so a chain ends
 
@@ -143,7 +132,7 @@ after-prepend n e (edits es) = let z : n + suc (length es) ≡ n + 1 + length es
 after-prepend n e (wrong why) = refl
 
 module _ (s : List ℕ) (count i before : ℕ) (g : Going s count i before) (k : i ≡ 0 → ⊥) where
-  pub going_on : (n : ℕ) → link_of s count i ≡ Next n → Going s count n (before + 1)
+  pub going_on : (n : ℕ) → link_of s count i ≡ Ok n → Going s count n (before + 1)
   unfolding follow
   going_on n h = by g.more (g.enough k) g.rest
     where
@@ -160,11 +149,11 @@ module _ (s : List ℕ) (count i before : ℕ) (g : Going s count i before) (k :
         rest = sym (after-prepend before (record_edit s (record_at s i)) (chain m s count n)) ∙ (rw (chain-on m s count i k, h) at r);
       }
 
-  pub going-broken : (why : RecipeError) → link_of s count i ≡ Broken why → check_answer (recipe_of s) ≡ Refused why
+  pub going-broken : (why : RecipeError) → link_of s count i ≡ Err why → check_answer (recipe_of s) ≡ Err why
   unfolding follow edits_after
   going-broken why h = by g.more (g.enough k) g.rest
     where
-      by : (more : ℕ) → count < i + more → edits_after before (chain more s count i) ≡ check_answer (recipe_of s) → check_answer (recipe_of s) ≡ Refused why
+      by : (more : ℕ) → count < i + more → edits_after before (chain more s count i) ≡ check_answer (recipe_of s) → check_answer (recipe_of s) ≡ Err why
       by zero e r = absurd (omega (arith, g.low))
       by (suc m) e r = sym (rw (chain-on m s count i k, h) at r)
 
@@ -173,7 +162,7 @@ unfolding chain
 chain-end zero s count = refl
 chain-end (suc more) s count = refl
 
-pub going_end : (s : List ℕ) (count i before : ℕ) → Going s count i before → i ≡ 0 → check_answer (recipe_of s) ≡ Edits before
+pub going_end : (s : List ℕ) (count i before : ℕ) → Going s count i before → i ≡ 0 → check_answer (recipe_of s) ≡ Ok before
 unfolding edits_after
 going_end s count i before g h = sym (rw (h, chain-end g.more s count, add-zero) at g.rest)
 
@@ -191,15 +180,15 @@ unfolding chain prepend follow
 chained-on zero s count i es k h = absurd (let w = simp (ne_eqb i 0 k) at h in let z : ◌≡◌ {A = ℕ} 0 1 = cc in omega arith)
 chained-on (suc m) s count i es k h = by (link_of s count i) refl (rw (chain-on m s count i k) at h)
   where
-    with-next : (n : ℕ) (r : Recipe) → chain m s count n ≡ r → link_of s count i ≡ Next n → prepend (record_edit s (record_at s i)) r ≡ edits es → Chained s count i es
+    with-next : (n : ℕ) (r : Recipe) → chain m s count n ≡ r → link_of s count i ≡ Ok n → prepend (record_edit s (record_at s i)) r ≡ edits es → Chained s count i es
     with-next n (edits rest) e l p =
         let f = link-next s count i n l in
         record { more = m; rest = rest; linked = rw f.next f; chained = rw f.next e; split = cc }
     with-next n (wrong why) e l p = absurd (let z : ◌≡◌ {A = ℕ} 0 1 = cc in omega arith)
 
-    by : (l : Link) → link_of s count i ≡ l → follow l (record_edit s (record_at s i)) (chain m s count) ≡ edits es → Chained s count i es
-    by (Next n) e p = with-next n (chain m s count n) refl e p
-    by (Broken why) e p = absurd (let z : ◌≡◌ {A = ℕ} 0 1 = cc in omega arith)
+    by : (l : Result ℕ RecipeError) → link_of s count i ≡ l → follow l (record_edit s (record_at s i)) (chain m s count) ≡ edits es → Chained s count i es
+    by (Ok n) e p = with-next n (chain m s count n) refl e p
+    by (Err why) e p = absurd (let z : ◌≡◌ {A = ℕ} 0 1 = cc in omega arith)
 
 -- a recipe that was checked is a chain
 pub record Whole (s : List ℕ) (n : ℕ) : Type 0 where
@@ -210,12 +199,12 @@ pub record Whole (s : List ℕ) (n : ℕ) : Type 0 where
   pub whole : recipe_of s ≡ edits es
   pub count : length es ≡ n
 
-pub checked-whole : (s : List ℕ) (n : ℕ) → check_answer (recipe_of s) ≡ Edits n → Whole s n
+pub checked-whole : (s : List ℕ) (n : ℕ) → check_answer (recipe_of s) ≡ Ok n → Whole s n
 unfolding recipe_of edits_after
 checked-whole s n h = by (leb 4 (length s)) refl (leb (first_index s) (record_count s)) refl (chain (record_count s) s (record_count s) (first_index s)) refl h
   where
     by : (t : Bool) → leb 4 (length s) ≡ t → (u : Bool) → leb (first_index s) (record_count s) ≡ u → (r : Recipe) → chain (record_count s) s (record_count s) (first_index s) ≡ r
-        → edits_after 0 (if t then (if u then r else wrong BrokenChain) else wrong BrokenChain) ≡ Edits n → Whole s n
+        → edits_after 0 (if t then (if u then r else wrong BrokenChain) else wrong BrokenChain) ≡ Ok n → Whole s n
     by true a true b (edits es) c k = record { es = es; size = leb-true _ _ a; low = leb-true _ _ b; chained = c; whole = simp (a, b, c); count = let z : 0 + length es ≡ n = cc in omega arith }
     by true a true b (wrong why) c k = absurd (let z : ◌≡◌ {A = ℕ} 0 1 = cc in omega arith)
     by true a false b r c k = absurd (let z : ◌≡◌ {A = ℕ} 0 1 = cc in omega arith)
@@ -235,9 +224,9 @@ same-follow : (s : List ℕ) (count i : ℕ) (f g : ℕ → Recipe) → (i ≡ 0
 unfolding follow
 same-follow s count i f g k l same = by (link_of s count i) refl
   where
-    by : (x : Link) → link_of s count i ≡ x → follow x (record_edit s (record_at s i)) f ≡ follow x (record_edit s (record_at s i)) g
-    by (Next n) e = ap (λ (r : Recipe). prepend (record_edit s (record_at s i)) r) (same n (rises-above count i n k l (link-next s count i n e).rising))
-    by (Broken why) e = refl
+    by : (x : Result ℕ RecipeError) → link_of s count i ≡ x → follow x (record_edit s (record_at s i)) f ≡ follow x (record_edit s (record_at s i)) g
+    by (Ok n) e = ap (λ (r : Recipe). prepend (record_edit s (record_at s i)) r) (same n (rises-above count i n k l (link-next s count i n e).rising))
+    by (Err why) e = refl
 
 pub same-chain : (m n : ℕ) (s : List ℕ) (count i : ℕ) → i ≤ count → Enough count i m → Enough count i n → chain m s count i ≡ chain n s count i
 same-chain zero n s count i l h k = ends zero n s count i (elim (ℕ_discrete i 0) [ yes e ↦ e | no e ↦ absurd (omega (arith, h e)) ])

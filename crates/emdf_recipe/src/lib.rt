@@ -2,41 +2,28 @@
 #![tactic(auto)]
 
 ghost use Rattle.std.specs.Prelude.{◌≡◌, ◌^◌, ◌<◌, ◌≤◌};
-ghost use Rattle.emdf_recipe.specs.File.{octets_number, record_at, next_allowed, record_allowed, link_of, recipe_of, check_answer};
+ghost use Rattle.emdf_recipe.specs.File.{octets_number, kind_of, record_at, next_allowed, record_allowed, link_of, recipe_of, check_answer};
 
 use emdf_format::RecipeError;
 
-// A record of the file.
+// What a record's edit does: it replaces a body, drops a payload or replaces the key id.
+#[derive(Clone, Copy)]
+pub enum RecordKind {
+    Body,
+    Drop,
+    Key,
+}
+
+// A record of the file. A kind that isn't listed is its number.
 #[derive(Clone, Copy)]
 pub struct RecipeRecord {
     pub next: usize,
-    pub kind: u64,
+    pub kind: Result<RecordKind, u64>,
     pub zero: u64,
     pub place: usize,
     pub offset: usize,
     pub length: usize,
 }
-
-// The next record's number, or what is wrong with this one.
-#[derive(Clone, Copy)]
-pub enum Link {
-    Next(usize),
-    Broken(RecipeError),
-}
-
-// How many edits a recipe has, or why it has none.
-#[derive(Clone, Copy)]
-pub enum CheckAnswer {
-    Edits(usize),
-    Refused(RecipeError),
-}
-
-// The kinds of records.
-pub const BODY: u64 = 1;
-
-pub const DROP: u64 = 2;
-
-pub const KEY: u64 = 3;
 
 // A key's octets.
 const KEY_OCTETS: usize = 8;
@@ -52,6 +39,19 @@ pub fn octets_number(s: &[u8], at: usize, octets: usize) -> u64
     openjoc_bitio::window_at(s, at * 8) >> (64 - octets * 8)
 }
 
+// A kind by its number in the file.
+#[tactic(auto, unfolding(crate::specs::File::kind_of))]
+fn kind_of(number: u64) -> Result<RecordKind, u64>
+    ensures { result ≡ kind_of number }
+{
+    match number {
+        1 => Ok(RecordKind::Body),
+        2 => Ok(RecordKind::Drop),
+        3 => Ok(RecordKind::Key),
+        _ => Err(number),
+    }
+}
+
 pub fn record_at(s: &[u8], i: usize) -> RecipeRecord
     requires { (0 < i) × (i < 65536) }
     ensures { result ≡ record_at s.now i }
@@ -59,7 +59,7 @@ pub fn record_at(s: &[u8], i: usize) -> RecipeRecord
     let at = 16 * i - 12;
     RecipeRecord {
         next: octets_number(s, at, 2) as usize,
-        kind: octets_number(s, at + 2, 1),
+        kind: kind_of(octets_number(s, at + 2, 1)),
         zero: octets_number(s, at + 3, 1),
         place: octets_number(s, at + 4, 4) as usize,
         offset: octets_number(s, at + 8, 4) as usize,
@@ -71,79 +71,61 @@ pub fn record_at(s: &[u8], i: usize) -> RecipeRecord
 fn next_allowed(count: usize, i: usize, next: usize) -> bool
     ensures { result ≡ next_allowed count i next }
 {
-    if next == 0 {
-        return true;
-    }
-    if next <= i {
-        return false;
-    }
-    next <= count
+    next == 0 || (i < next && next <= count)
 }
 
 // Whether a record in a file of n bytes can be run.
 fn record_allowed(n: usize, e: RecipeRecord) -> bool
-    requires { (e.offset < 4294967296) × (e.length < 4294967296) }
+    requires { (e.offset < 2 ^ 32) × (e.length < 2 ^ 32) }
     ensures { result ≡ record_allowed n e }
 {
     if e.zero != 0 {
         return false;
     }
-    if e.kind == DROP {
-        return true;
+    let data_there = e.offset + e.length <= n;
+    match e.kind {
+        Ok(RecordKind::Body) => data_there,
+        Ok(RecordKind::Drop) => true,
+        Ok(RecordKind::Key) => data_there && e.length == KEY_OCTETS,
+        Err(_) => false,
     }
-    if n < e.offset + e.length {
-        return false;
-    }
-    if e.kind == BODY {
-        return true;
-    }
-    if e.kind != KEY {
-        return false;
-    }
-    e.length == KEY_OCTETS
 }
 
 // A record's questions.
-fn link_at(s: &[u8], count: usize, i: usize) -> Link
+fn link_at(s: &[u8], count: usize, i: usize) -> Result<usize, RecipeError>
     requires { (0 < i) × (i < 65536) }
     ensures { result ≡ link_of s.now count i }
 {
     if s.len() < HEAD + 16 * i {
-        return Link::Broken(RecipeError::BrokenChain);
+        return Err(RecipeError::BrokenChain);
     }
     let e = record_at(s, i);
     if !next_allowed(count, i, e.next) {
-        return Link::Broken(RecipeError::BrokenChain);
+        return Err(RecipeError::BrokenChain);
     }
     if !record_allowed(s.len(), e) {
-        return Link::Broken(RecipeError::InvalidRecord);
+        return Err(RecipeError::InvalidRecord);
     }
-    Link::Next(e.next)
+    Ok(e.next)
 }
 
 // The whole chain.
-pub fn check_recipe(file: &[u8]) -> CheckAnswer
+pub fn check_recipe(file: &[u8]) -> Result<usize, RecipeError>
     ensures { result ≡ check_answer (recipe_of file.now) }
 {
     if file.len() < HEAD {
-        return CheckAnswer::Refused(RecipeError::BrokenChain);
+        return Err(RecipeError::BrokenChain);
     }
     let count = octets_number(file, 2, 2) as usize;
     let mut i = octets_number(file, 0, 2) as usize;
     if count < i {
-        return CheckAnswer::Refused(RecipeError::BrokenChain);
+        return Err(RecipeError::BrokenChain);
     }
-    let mut edits: usize = 0;
+    let mut edits = 0;
+    // A chain is a linked list: each record names the next one.
     while i != 0 {
-        match link_at(file, count, i) {
-            Link::Next(next) => {
-                i = next;
-                edits += 1;
-            }
-            Link::Broken(why) => {
-                return CheckAnswer::Refused(why);
-            }
-        }
+        i = link_at(file, count, i)?;
+        edits += 1;
     }
-    CheckAnswer::Edits(edits)
+    Ok(edits)
 }

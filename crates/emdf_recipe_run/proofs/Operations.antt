@@ -8,10 +8,9 @@ use lib.ListN.{length, get_or, take, drop, length-take, get_or-eq_default}
 use lib.Seq.{get_or-take, get_or-drop}
 use lib.Dec.{leb, ltb, eqb}
 use borrow.Author.Tests.{ltb-true, ltb-false}
-use Rattle.std.specs.Prelude.{if◌then◌else◌}
+use Rattle.std.specs.Prelude.{if◌then◌else◌, Result, Ok, Err}
 use Rattle.openjoc_bitio.specs.declared.ByteCount.{ByteCount}
-use Rattle.emdf_format.specs.declared.EditAnswer.{EditAnswer}
-use Rattle.emdf_format.specs.declared.EditAnswer.TheVariants.{Written}
+use Rattle.emdf_format.specs.declared.EditError.{EditError}
 use Rattle.emdf_format.specs.declared.RecipeError.{RecipeError}
 use Rattle.emdf_format.specs.declared.RecipeError.TheVariants.{BrokenChain}
 use Rattle.emdf_format.specs.Contents.{Contents}
@@ -20,14 +19,11 @@ use Rattle.emdf_format.specs.Edits.{Edit, Call, next_source, done, leaves, answe
 use Rattle.emdf_format.proofs.Bytes.{length-carrier}
 use Rattle.emdf_format.proofs.Lists.{Carries, carried, carries_same, reads_as, followed}
 use Rattle.emdf_recipe.specs.declared.RecipeRecord.{RecipeRecord}
-use Rattle.emdf_recipe.specs.declared.Link.{Link}
-use Rattle.emdf_recipe.specs.declared.Link.TheVariants.{Next, Broken}
-use Rattle.emdf_recipe.specs.File.{first_index, record_count, body_kind, drop_kind, record_at, record_edit, link_of, Recipe, edits, wrong, prepend, follow, chain, recipe_of, edits_of}
+use Rattle.emdf_recipe.specs.declared.RecordKind.{RecordKind}
+use Rattle.emdf_recipe.specs.File.{first_index, record_count, record_at, edit_asked, record_edit, link_of, Recipe, edits, wrong, prepend, follow, chain, recipe_of, edits_of}
 use Rattle.emdf_recipe_run.specs.declared.Holder.{Holder}
 use Rattle.emdf_recipe_run.specs.declared.Holder.TheVariants.{Start, First, Second}
 use Rattle.emdf_recipe_run.specs.declared.RunAnswer.{RunAnswer}
-use Rattle.emdf_recipe_run.specs.declared.RecipeAnswer.{RecipeAnswer}
-use Rattle.emdf_recipe_run.specs.declared.RecipeAnswer.TheVariants.{Refused}
 use Rattle.emdf_recipe_run.specs.Runs.{Run, source, target, first_after, second_after, counted, held, aim, ran_edit, ran_edits, begun_answer, begun, run_of, answer_of, RecipeCalled}
 use Rattle.emdf_recipe_run.specs.Plain.{PlainRun, room, plain_edit, plain_edits, plain_begun, plain_recipe}
 use Rattle.emdf_recipe_run.specs.Operations.{calls_from, counted_all, RunsItsCalls, Operation, OperationAnswer, operation_events, operation_outcome, contents_after, answers_of, OperationsBytes, left_by, Performed, none, edit, recipe, EqualityOfOperations}
@@ -35,16 +31,16 @@ use Rattle.emdf_recipe_run.proofs.Runs.{kept-lengths}
 
 -- ---- a run is the run of its calls
 
-next-at : (p : Holder) (n : ByteCount) (m : ℕ) (answer : EditAnswer) (dst start a b : List ℕ)
+next-at : (p : Holder) (n : ByteCount) (m : ℕ) (answer : Result ByteCount EditError) (dst start a b : List ℕ)
     → let q = counted (record { holder = p; length = n; refused = m }) answer in
     source q.holder q.length.0 start (first_after p dst a) (second_after p dst b) ≡ next_source (source p n.0 start a b) answer dst
 unfolding counted source first_after second_after next_source
-next-at Start n m (Written k) dst start a b = refl
-next-at First n m (Written k) dst start a b = refl
-next-at Second n m (Written k) dst start a b = refl
-next-at Start n m (EditAnswer.Refused why) dst start a b = refl
-next-at First n m (EditAnswer.Refused why) dst start a b = refl
-next-at Second n m (EditAnswer.Refused why) dst start a b = refl
+next-at Start n m (Ok k) dst start a b = refl
+next-at First n m (Ok k) dst start a b = refl
+next-at Second n m (Ok k) dst start a b = refl
+next-at Start n m (Err why) dst start a b = refl
+next-at First n m (Err why) dst start a b = refl
+next-at Second n m (Err why) dst start a b = refl
 
 -- the call that an edit of the run is
 abbrev call_at : Edit → Run → Call
@@ -84,11 +80,11 @@ runs-its-calls = record { claim = λ file start a b. by (recipe_of file) start a
     by (wrong why) start a b = (refl, refl)
 
 -- 22 and 23 leave both buffers
-pub refused-leaves : (start file a₀ b₀ : List ℕ) {why : RecipeError} {a b : List ℕ} → RecipeCalled start file a₀ b₀ (Refused why) a b → (a ≡ a₀) × (b ≡ b₀)
+pub refused-leaves : (start file a₀ b₀ : List ℕ) {why : RecipeError} {a b : List ℕ} → RecipeCalled start file a₀ b₀ (Err why) a b → (a ≡ a₀) × (b ≡ b₀)
 unfolding answer_of run_of begun
 refused-leaves start file a₀ b₀ {why} {a} {b} h = by (recipe_of file) h.answered h.first h.second
   where
-    by : (q : Recipe) → Refused why ≡ answer_of q (run_of q start a₀ b₀).answer → a ≡ (run_of q start a₀ b₀).first → b ≡ (run_of q start a₀ b₀).second → (a ≡ a₀) × (b ≡ b₀)
+    by : (q : Recipe) → Err why ≡ answer_of q (run_of q start a₀ b₀).answer → a ≡ (run_of q start a₀ b₀).first → b ≡ (run_of q start a₀ b₀).second → (a ≡ a₀) × (b ≡ b₀)
     by (edits es) k l m = absurd (let z : ◌≡◌ {A = ℕ} 0 1 = cc in omega arith)
     by (wrong y) k l m = (l, m)
 
@@ -150,13 +146,14 @@ part_bytes f n o h i = by (ltb i n) refl
         rw (get_or-eq_default (take n (drop o f)) 0 short) (omega arith)
 
 record-bytes : (f : List ℕ) (e : RecipeRecord) → Bytes f → EditBytes (record_edit f e)
-unfolding record_edit EditBytes
-record-bytes f e h = by (eqb e.kind body_kind) refl (eqb e.kind drop_kind) refl
+unfolding edit_asked EditBytes
+record-bytes f e h = by e.kind
   where
-    by : (t : Bool) → eqb e.kind body_kind ≡ t → (u : Bool) → eqb e.kind drop_kind ≡ u → EditBytes (record_edit f e)
-    by true k u l = simp k (part_bytes f e.length e.offset h)
-    by false k true l = simp (k, l) tt
-    by false k false l = simp (k, l) tt
+    by : (k : Result RecordKind ℕ) → EditBytes (edit_asked k f e)
+    by (Ok RecordKind.Body) = part_bytes f e.length e.offset h
+    by (Ok RecordKind.Drop) = tt
+    by (Ok RecordKind.Key) = tt
+    by (Err n) = tt
 
 either-bytes : (t : Bool) (q r : Recipe) → AllBytes (edits_of q) → AllBytes (edits_of r) → AllBytes (edits_of (if t then q else r))
 either-bytes true q r h k = h
@@ -167,10 +164,10 @@ unfolding prepend edits_of AllBytes
 prepend-bytes e (edits es) h k = (h, k)
 prepend-bytes e (wrong why) h k = tt
 
-follow-bytes : (l : Link) (e : Edit) (rest : ℕ → Recipe) → EditBytes e → ((n : ℕ) → AllBytes (edits_of (rest n))) → AllBytes (edits_of (follow l e rest))
+follow-bytes : (l : Result ℕ RecipeError) (e : Edit) (rest : ℕ → Recipe) → EditBytes e → ((n : ℕ) → AllBytes (edits_of (rest n))) → AllBytes (edits_of (follow l e rest))
 unfolding follow edits_of AllBytes
-follow-bytes (Next n) e rest h k = prepend-bytes e (rest n) h (k n)
-follow-bytes (Broken why) e rest h k = tt
+follow-bytes (Ok n) e rest h k = prepend-bytes e (rest n) h (k n)
+follow-bytes (Err why) e rest h k = tt
 
 chain-bytes : (more : ℕ) (f : List ℕ) (count i : ℕ) → Bytes f → AllBytes (edits_of (chain more f count i))
 unfolding chain edits_of AllBytes
@@ -196,7 +193,7 @@ unfolding edits_of run_of plain_recipe
 along-recipe (edits es) start a b c h k = along-edits start (length a) (length b) es _ _ h (along-start start a b c k)
 along-recipe (wrong why) start a b c h k = along-start start a b c k
 
-left-held : (q : Recipe) (start a₀ b₀ a b : List ℕ) (answer : RecipeAnswer) → answer ≡ answer_of q (run_of q start a₀ b₀).answer
+left-held : (q : Recipe) (start a₀ b₀ a b : List ℕ) (answer : Result RunAnswer RecipeError) → answer ≡ answer_of q (run_of q start a₀ b₀).answer
     → a ≡ (run_of q start a₀ b₀).first → b ≡ (run_of q start a₀ b₀).second → left_by start answer a b ≡ held start (run_of q start a₀ b₀)
 unfolding answer_of left_by run_of begun begun_answer source
 left-held (edits es) start a₀ b₀ a b answer h k l = rw (h, k, l)

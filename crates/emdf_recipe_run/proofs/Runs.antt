@@ -1,60 +1,26 @@
 -- Laws on a run over two buffers. Assumes nothing.
 use mathlib.Core.Path.{◌≡◌, refl, ap, ◌∙◌}
-use mathlib.Core.Bool.{Bool, true, false}
 use mathlib.Core.List.{List, []}
-use Prim.Native.Nat.{ℕ, ◌+◌, ◌-◌, ◌<◌, ◌≤◌}
+use Prim.Native.Nat.{ℕ, ◌+◌, ◌<◌, ◌≤◌}
 use native.Mathlib.Omega.{arith}
 use lib.ListN.{length}
-use lib.Dec.{eqb}
-use borrow.Author.Tests.{eqb-true, eqb-false}
+use Rattle.std.specs.Prelude.{Result, Ok, Err}
 use Rattle.openjoc_bitio.specs.declared.ByteCount.{ByteCount}
-use Rattle.emdf_format.specs.declared.EditAnswer.{EditAnswer}
+use Rattle.emdf_format.specs.declared.EditError.{EditError}
 use Rattle.emdf_format.specs.declared.RecipeError.{RecipeError}
 use Rattle.emdf_format.specs.Edits.{Edit, Called}
 use Rattle.emdf_format.proofs.Lists.{keeps-length, in-room}
-use Rattle.emdf_request.specs.declared.Request.{Request}
-use Rattle.emdf_request.specs.Requests.{edit_of}
-use Rattle.emdf_recipe.specs.declared.RecipeRecord.{RecipeRecord}
-use Rattle.emdf_recipe.specs.declared.CheckAnswer.TheVariants as CheckAnswer
-use Rattle.emdf_recipe.specs.File.{body_kind, drop_kind, first_index, record_count, record_at, record_edit, record_allowed, Recipe, edits, wrong, chain, recipe_of, edits_of, edits_after, check_answer}
-use Rattle.emdf_recipe.proofs.File.{has-data, Above, rises-above, Chained, chained-on, chain-end, Whole, checked-whole}
-use Rattle.emdf_recipe_run.specs.declared.Span.{Span}
+use Rattle.emdf_recipe.specs.File.{first_index, record_count, record_at, record_edit, Recipe, edits, wrong, chain, recipe_of, edits_of, edits_after, check_answer}
+use Rattle.emdf_recipe.proofs.File.{Above, rises-above, Chained, chained-on, chain-end, Whole, checked-whole}
 use Rattle.emdf_recipe_run.specs.declared.Holder.{Holder}
 use Rattle.emdf_recipe_run.specs.declared.Holder.TheVariants.{Start, First, Second}
 use Rattle.emdf_recipe_run.specs.declared.RunAnswer.{RunAnswer}
-use Rattle.emdf_recipe_run.specs.declared.RecipeAnswer.TheVariants.{Ran, Refused}
-use Rattle.emdf_recipe_run.specs.Requests.{request_of, span_of, part}
 use Rattle.emdf_recipe_run.specs.Runs.{Run, source, target, first_after, second_after, counted, held, aim, ran_edit, ran_edits, begun_answer, begun, run_of, answer_of, IsRun, Lies, RecipeCalled}
-
--- ---- a record, as it is handed to the edits
-
-pub span-inside : (n : ℕ) (e : RecipeRecord) → record_allowed n e ≡ true → ((span_of e).from ≤ (span_of e).to) × ((span_of e).to ≤ n)
-unfolding span_of
-span-inside n e h = by (eqb e.kind drop_kind) refl
-  where
-    by : (t : Bool) → eqb e.kind drop_kind ≡ t → ((span_of e).from ≤ (span_of e).to) × ((span_of e).to ≤ n)
-    by true k = simp k (omega arith)
-    by false k = let d = has-data n e h (eqb-false _ _ k) in simp k (omega (arith, d.inside))
-
--- it asks for its edit
-pub asks : (s : List ℕ) (e : RecipeRecord) → edit_of (request_of s e) (part s (span_of e)) [] ≡ record_edit s e
-unfolding edit_of request_of span_of record_edit
-asks s e = by (eqb e.kind body_kind) refl (eqb e.kind drop_kind) refl
-  where
-    by : (t : Bool) → eqb e.kind body_kind ≡ t → (u : Bool) → eqb e.kind drop_kind ≡ u → edit_of (request_of s e) (part s (span_of e)) [] ≡ record_edit s e
-    by true k true l = absurd (let a : e.kind ≡ 1 = eqb-true _ _ k in let b : e.kind ≡ 2 = eqb-true _ _ l in omega arith)
-    by true k false l = let z : e.offset + e.length - e.offset ≡ e.length = omega arith in simp (k, l, z)
-    by false k true l = simp (k, l)
-    by false k false l = simp (k, l)
-
-pub asked : (s : List ℕ) (i : ℕ) (e : RecipeRecord) (q : Request) (p : Span) → e ≡ record_at s i → q ≡ request_of s e → p ≡ span_of e
-    → edit_of q (part s p) [] ≡ record_edit s (record_at s i)
-asked s i e q p h k l = rw (k, l, h) (asks s (record_at s i))
 
 -- ---- one edit
 
 -- a call that reads at a holder is one edit of the run
-pub landed : (start : List ℕ) (e : Edit) (r : Run) (p : Holder) {answer : EditAnswer} {dst : List ℕ} → r.answer.holder ≡ p
+pub landed : (start : List ℕ) (e : Edit) (r : Run) (p : Holder) {answer : Result ByteCount EditError} {dst : List ℕ} → r.answer.holder ≡ p
     → Called e (source p r.answer.length.0 start r.first r.second) (target p r.first r.second) answer dst
     → IsRun (ran_edit start e r) (counted r.answer answer) (first_after p dst r.first) (second_after p dst r.second)
 unfolding ran_edit
@@ -67,22 +33,22 @@ record Kept (r q : Run) : Type 0 where
   pub lies : Lies q.answer.holder q.answer.length.0 q.first q.second
   pub few : q.answer.refused ≤ r.answer.refused + 1
 
-counts : (s : RunAnswer) (answer : EditAnswer) → (counted s answer).refused ≤ s.refused + 1
+counts : (s : RunAnswer) (answer : Result ByteCount EditError) → (counted s answer).refused ≤ s.refused + 1
 unfolding counted
-counts s (EditAnswer.Written n) = omega arith
-counts s (EditAnswer.Refused why) = omega arith
+counts s (Ok n) = omega arith
+counts s (Err why) = omega arith
 
 -- where the carrier is after an edit that read at p, and wrote dst
-lies_in : (p : Holder) (n : ByteCount) (m : ℕ) (answer : EditAnswer) (dst a b : List ℕ) → Lies p n.0 a b
-    → ((k : ByteCount) → answer ≡ EditAnswer.Written k → k.0 ≤ length dst)
+lies_in : (p : Holder) (n : ByteCount) (m : ℕ) (answer : Result ByteCount EditError) (dst a b : List ℕ) → Lies p n.0 a b
+    → ((k : ByteCount) → answer ≡ Ok k → k.0 ≤ length dst)
     → let q = counted (record { holder = p; length = n; refused = m }) answer in Lies q.holder q.length.0 (first_after p dst a) (second_after p dst b)
 unfolding counted Lies first_after second_after
-lies_in Start n m (EditAnswer.Written k) dst a b l f = f k refl
-lies_in First n m (EditAnswer.Written k) dst a b l f = f k refl
-lies_in Second n m (EditAnswer.Written k) dst a b l f = f k refl
-lies_in Start n m (EditAnswer.Refused why) dst a b l f = l
-lies_in First n m (EditAnswer.Refused why) dst a b l f = l
-lies_in Second n m (EditAnswer.Refused why) dst a b l f = l
+lies_in Start n m (Ok k) dst a b l f = f k refl
+lies_in First n m (Ok k) dst a b l f = f k refl
+lies_in Second n m (Ok k) dst a b l f = f k refl
+lies_in Start n m (Err why) dst a b l f = l
+lies_in First n m (Err why) dst a b l f = l
+lies_in Second n m (Err why) dst a b l f = l
 
 first-kept : (p : Holder) (dst a b : List ℕ) → length dst ≡ length (target p a b) → length (first_after p dst a) ≡ length a
 unfolding first_after target
@@ -130,7 +96,7 @@ pub record Running (start s a₀ b₀ : List ℕ) (i : ℕ) (r : Run) : Type 0 w
   pub second : length r.second ≡ length b₀
 
 -- a recipe that is a list of edits
-counted-so : (r : Recipe) → r ≡ edits (edits_of r) → check_answer r ≡ CheckAnswer.Edits (length (edits_of r))
+counted-so : (r : Recipe) → r ≡ edits (edits_of r) → check_answer r ≡ Ok (length (edits_of r))
 unfolding edits_of edits_after
 counted-so (edits es) h = let z : 0 + length es ≡ length es = omega arith in rw z
 counted-so (wrong why) h = absurd (let z : ◌≡◌ {A = ℕ} 0 1 = cc in omega arith)
@@ -181,21 +147,21 @@ running-end start s a₀ b₀ i r g h =
 
 -- ---- the call
 
-pub checked-edits : (s : List ℕ) (n : ℕ) → check_answer (recipe_of s) ≡ CheckAnswer.Edits n → recipe_of s ≡ edits (edits_of (recipe_of s))
+pub checked-edits : (s : List ℕ) (n : ℕ) → check_answer (recipe_of s) ≡ Ok n → recipe_of s ≡ edits (edits_of (recipe_of s))
 unfolding edits_of
 checked-edits s n h = let w = checked-whole s n h in rw w.whole
 
 pub ran-all : (start s a₀ b₀ : List ℕ) (answer : RunAnswer) (a b : List ℕ) → recipe_of s ≡ edits (edits_of (recipe_of s)) → IsRun (run_of (recipe_of s) start a₀ b₀) answer a b
-    → RecipeCalled start s a₀ b₀ (Ran answer) a b
+    → RecipeCalled start s a₀ b₀ (Ok answer) a b
 unfolding answer_of
 ran-all start s a₀ b₀ answer a b h is =
-    record { answered = rw h (ap Ran (rw h at is.answered)); first = is.first; second = is.second }
+    record { answered = rw h (ap Ok (rw h at is.answered)); first = is.first; second = is.second }
 
-refused-by : (r : Recipe) (why : RecipeError) → check_answer r ≡ CheckAnswer.Refused why → r ≡ wrong why
+refused-by : (r : Recipe) (why : RecipeError) → check_answer r ≡ Err why → r ≡ wrong why
 unfolding edits_after
 refused-by (edits es) why h = absurd (let z : ◌≡◌ {A = ℕ} 0 1 = cc in omega arith)
 refused-by (wrong w) why h = cc
 
-pub refused_all : (start s a b : List ℕ) (why : RecipeError) → check_answer (recipe_of s) ≡ CheckAnswer.Refused why → RecipeCalled start s a b (Refused why) a b
+pub refused_all : (start s a b : List ℕ) (why : RecipeError) → check_answer (recipe_of s) ≡ Err why → RecipeCalled start s a b (Err why) a b
 unfolding answer_of run_of begun
 refused_all start s a b why h = let q = refused-by _ why h in record { answered = rw q; first = rw q; second = rw q }

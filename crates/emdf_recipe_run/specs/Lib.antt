@@ -1,4 +1,3 @@
-pub mod Requests
 pub mod Runs
 pub mod Plain
 pub mod Operations

@@ -1,13 +1,13 @@
 -- Lists in which single edits and recipes alternate: on carriers, on plain contents, and what is claimed of them. Assumes nothing.
-use Rattle.std.specs.Prelude.{◌≡◌, List, [], ◌∷◌, ◌↔◌, ℕ, length}
-use Rattle.emdf_format.specs.declared.EditAnswer.{EditAnswer}
+use Rattle.std.specs.Prelude.{◌≡◌, List, [], ◌∷◌, ◌↔◌, ℕ, length, Result, Ok, Err}
+use Rattle.openjoc_bitio.specs.declared.ByteCount.{ByteCount}
+use Rattle.emdf_format.specs.declared.RecipeError.{RecipeError}
+use Rattle.emdf_format.specs.declared.EditError.{EditError}
 use Rattle.emdf_format.specs.Contents.{Contents}
 use Rattle.emdf_format.specs.Reading.{Container, accepted, reading, contents_of}
 use Rattle.emdf_format.specs.Edits.{Edit, Called, Call, next_source, leaves, answers, Event, event_of, outcome, Bytes, EditBytes, ReadsAs}
 use Rattle.emdf_recipe.specs.File.{recipe_of, edits_of}
 use Rattle.emdf_recipe_run.specs.declared.RunAnswer.{RunAnswer}
-use Rattle.emdf_recipe_run.specs.declared.RecipeAnswer.{RecipeAnswer}
-use Rattle.emdf_recipe_run.specs.declared.RecipeAnswer.TheVariants.{Ran, Refused}
 use Rattle.emdf_recipe_run.specs.Runs.{Run, source, counted, held, aim, ran_edit, begun, run_of, answer_of, RecipeCalled}
 use Rattle.emdf_recipe_run.specs.Plain.{PlainRun, plain_recipe}
 
@@ -18,7 +18,7 @@ calls_from start [] r = []
 calls_from start (e ∷ es) r = record { edit = e; destination = aim r } ∷ calls_from start es (ran_edit start e r)
 
 -- where the carrier is, its length and the refusals, by the answers alone
-unfoldable pub counted_all : RunAnswer → List EditAnswer → RunAnswer
+unfoldable pub counted_all : RunAnswer → List (Result ByteCount EditError) → RunAnswer
 counted_all r [] = r
 counted_all r (answer ∷ rest) = counted_all (counted r answer) rest
 
@@ -39,8 +39,8 @@ pub data Operation : Type 0 where
   recipe_call : (file first second : List ℕ) → Operation
 
 pub data OperationAnswer : Type 0 where
-  edit_answer : EditAnswer → OperationAnswer
-  recipe_answer : RecipeAnswer → OperationAnswer
+  edit_answer : Result ByteCount EditError → OperationAnswer
+  recipe_answer : Result RunAnswer RecipeError → OperationAnswer
 
 -- ---- the plain side: all that it is told is the edit or the recipe's file, and how long the buffers are
 
@@ -80,18 +80,18 @@ OperationsBytes (edit_call t ∷ os) = EditBytes t.edit × OperationsBytes os
 OperationsBytes (recipe_call file a b ∷ os) = Bytes file × OperationsBytes os
 
 -- the carrier after a recipe's call
-unfoldable pub left_by : List ℕ → RecipeAnswer → List ℕ → List ℕ → List ℕ
-left_by src (Ran r) a b = source r.holder r.length.0 src a b
-left_by src (Refused why) a b = src
+unfoldable pub left_by : List ℕ → Result RunAnswer RecipeError → List ℕ → List ℕ → List ℕ
+left_by src (Ok r) a b = source r.holder r.length.0 src a b
+left_by src (Err why) a b = src
 
 -- a list of operations from a carrier on, each on the one that the last accepted edit wrote; the carrier left, and the answers
 pub data Performed : List ℕ → List Operation → List ℕ → List OperationAnswer → Type 0 where
   none : {src : List ℕ} → Performed src [] src []
-  edit : {src exit left : List ℕ} {t : Call} {os : List Operation} {answer : EditAnswer} {answers : List OperationAnswer}
+  edit : {src exit left : List ℕ} {t : Call} {os : List Operation} {answer : Result ByteCount EditError} {answers : List OperationAnswer}
       → Called t.edit src t.destination answer exit
       → Performed (next_source src answer exit) os left answers
       → Performed src (edit_call t ∷ os) left (edit_answer answer ∷ answers)
-  recipe : {src file a₀ b₀ a b left : List ℕ} {os : List Operation} {answer : RecipeAnswer} {answers : List OperationAnswer}
+  recipe : {src file a₀ b₀ a b left : List ℕ} {os : List Operation} {answer : Result RunAnswer RecipeError} {answers : List OperationAnswer}
       → RecipeCalled src file a₀ b₀ answer a b
       → Performed (left_by src answer a b) os left answers
       → Performed src (recipe_call file a₀ b₀ ∷ os) left (recipe_answer answer ∷ answers)

@@ -1,14 +1,13 @@
 -- A list of edits run over two lent buffers. Assumes nothing.
-use Rattle.std.specs.Prelude.{◌≡◌, List, [], ◌∷◌, ℕ, ◌+◌, ◌≤◌, length, take}
-use Rattle.emdf_format.specs.declared.EditAnswer.{EditAnswer}
-use Rattle.emdf_format.specs.declared.EditAnswer.TheVariants.{Written}
+use Rattle.std.specs.Prelude.{◌≡◌, List, [], ◌∷◌, ℕ, ◌+◌, ◌≤◌, length, take, Result, Ok, Err}
+use Rattle.openjoc_bitio.specs.declared.ByteCount.{ByteCount}
+use Rattle.emdf_format.specs.declared.RecipeError.{RecipeError}
+use Rattle.emdf_format.specs.declared.EditError.{EditError}
 use Rattle.emdf_format.specs.Edits.{Edit, Edited, edited}
 use Rattle.emdf_recipe.specs.File.{Recipe, edits, wrong, recipe_of}
 use Rattle.emdf_recipe_run.specs.declared.Holder.{Holder}
 use Rattle.emdf_recipe_run.specs.declared.Holder.TheVariants.{Start, First, Second}
 use Rattle.emdf_recipe_run.specs.declared.RunAnswer.{RunAnswer}
-use Rattle.emdf_recipe_run.specs.declared.RecipeAnswer.{RecipeAnswer}
-use Rattle.emdf_recipe_run.specs.declared.RecipeAnswer.TheVariants.{Ran, Refused}
 
 -- the answer so far, and both buffers
 pub record Run : Type 0 where
@@ -44,9 +43,9 @@ second_after Start dst b = b
 second_after First dst b = dst
 second_after Second dst b = b
 
-unfoldable pub counted : RunAnswer → EditAnswer → RunAnswer
-counted r (Written n) = record { holder = other r.holder; length = n; refused = r.refused }
-counted r (EditAnswer.Refused why) = record { holder = r.holder; length = r.length; refused = r.refused + 1 }
+unfoldable pub counted : RunAnswer → Result ByteCount EditError → RunAnswer
+counted r (Ok n) = record { holder = other r.holder; length = n; refused = r.refused }
+counted r (Err why) = record { holder = r.holder; length = r.length; refused = r.refused + 1 }
 
 abbrev pub held : List ℕ → Run → List ℕ
 held start r = source r.answer.holder r.answer.length.0 start r.first r.second
@@ -78,9 +77,9 @@ unfoldable pub run_of : Recipe → List ℕ → List ℕ → List ℕ → Run
 run_of (edits es) start a b = ran_edits start es (begun start a b)
 run_of (wrong why) start a b = begun start a b
 
-unfoldable pub answer_of : Recipe → RunAnswer → RecipeAnswer
-answer_of (edits es) answer = Ran answer
-answer_of (wrong why) answer = Refused why
+unfoldable pub answer_of : Recipe → RunAnswer → Result RunAnswer RecipeError
+answer_of (edits es) answer = Ok answer
+answer_of (wrong why) answer = Err why
 
 -- ---- what contracts say
 
@@ -97,7 +96,7 @@ pub record IsRun (r : Run) (answer : RunAnswer) (a b : List ℕ) : Type 0 where
   pub second : b ≡ r.second
 
 -- what the call that runs a recipe promises
-pub record RecipeCalled (start file a₀ b₀ : List ℕ) (answer : RecipeAnswer) (a b : List ℕ) : Type 0 where
+pub record RecipeCalled (start file a₀ b₀ : List ℕ) (answer : Result RunAnswer RecipeError) (a b : List ℕ) : Type 0 where
   pub answered : answer ≡ answer_of (recipe_of file) (run_of (recipe_of file) start a₀ b₀).answer
   pub first : a ≡ (run_of (recipe_of file) start a₀ b₀).first
   pub second : b ≡ (run_of (recipe_of file) start a₀ b₀).second

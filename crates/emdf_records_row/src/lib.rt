@@ -11,15 +11,11 @@ pub fn put_row(table: &mut [PayloadRow], place: usize, rows: usize, payload: Pay
     requires { (rows ≤ place) × (place < length table.old) × (last_of table.old payload.id rows + 1 < 2 ^ 64) }
     ensures { table.new ≡ set table.old place (row_after table.old rows payload) }
 {
-    let mut left = rows;
-    let mut last: u64 = 0;
-    while left != 0 {
-        left -= 1;
-        if table[left].payload.id == payload.id {
-            last = table[left].ordinal;
-            break;
-        }
-    }
+    let last = table[..rows]
+        .iter()
+        .rev()
+        .find(|row| row.payload.id == payload.id)
+        .map_or(0, |row| row.ordinal);
     table[place] = PayloadRow {
         payload,
         ordinal: last + 1,

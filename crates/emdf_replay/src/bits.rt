@@ -1,40 +1,26 @@
 // A case of the bit calls, by its line's numbers: call length byte*length position end argument number word*6.
-use crate::list::Outcome;
 use crate::words;
 
-// The number that a call returned, or that the line names none.
-#[derive(Clone, Copy)]
-enum CallAnswer {
-    Returned(u32),
-    Bad,
-}
-
-// The rest of the line is position end argument number word*6.
-pub(crate) fn outcome(call: u64, bytes: &[u8], rest: &[u64]) -> Outcome {
-    if rest.len() != 10 {
-        return Outcome::Bad;
+// Whether the call answers the same; nothing where the line is no case. The rest of the line is position end argument number word*6.
+pub(crate) fn outcome(call: u64, bytes: &[u8], rest: &[u64]) -> Option<bool> {
+    let (head, answer_words) = rest.split_first_chunk::<4>()?;
+    if answer_words.len() != 6 {
+        return None;
     }
-    let position = words::index(rest[0]);
-    let end = words::index(rest[1]);
+    let [position, end, argument, number] = *head;
     let mut answer = [0u8; 48];
-    let returned = call_host(call, bytes, position, end, rest[2], &mut answer);
-    let CallAnswer::Returned(number) = returned else {
-        return Outcome::Bad;
-    };
-    if number as u64 != rest[3] {
-        return Outcome::Differs;
-    }
-    if same_answer(&answer, &rest[4..]) {
-        Outcome::Same
-    } else {
-        Outcome::Differs
-    }
+    let returned = call_host(
+        call,
+        bytes,
+        words::index(position),
+        words::index(end),
+        argument,
+        &mut answer,
+    )?;
+    Some(u64::from(returned) == number && words::same_words(&answer, answer_words))
 }
 
-fn same_answer(answer: &[u8; 48], values: &[u64]) -> bool {
-    words::same_words(answer, values)
-}
-
+// The number that a call returned; nothing where the line names none.
 fn call_host(
     call: u64,
     bytes: &[u8],
@@ -42,36 +28,22 @@ fn call_host(
     end: usize,
     argument: u64,
     answer: &mut [u8; 48],
-) -> CallAnswer {
+) -> Option<u32> {
     match call {
-        0 => {
-            if position != 0 || end != 0 || argument != 0 {
-                return CallAnswer::Bad;
-            }
-            CallAnswer::Returned(emdf_host::emdf_bit_cursor(bytes, answer))
+        0 if position == 0 && end == 0 && argument == 0 => {
+            Some(emdf_host::emdf_bit_cursor(bytes, answer))
         }
-        1 => CallAnswer::Returned(emdf_host::emdf_bits_remaining(bytes, position, end, answer)),
+        1 => Some(emdf_host::emdf_bits_remaining(bytes, position, end, answer)),
         2 => {
-            if 255 < argument {
-                return CallAnswer::Bad;
-            }
-            CallAnswer::Returned(emdf_host::emdf_read_bits(
-                bytes,
-                position,
-                end,
-                argument as u8,
-                answer,
-            ))
+            let count = u8::try_from(argument).ok()?;
+            Some(emdf_host::emdf_read_bits(bytes, position, end, count, answer))
         }
-        3 => CallAnswer::Returned(emdf_host::emdf_read_bit(bytes, position, end, answer)),
-        4 => CallAnswer::Returned(emdf_host::emdf_take_bits(
-            bytes,
-            position,
-            end,
-            words::index(argument),
-            answer,
-        )),
-        5 => CallAnswer::Returned(emdf_host::emdf_byte_align(bytes, position, end, answer)),
-        _ => CallAnswer::Bad,
+        3 => Some(emdf_host::emdf_read_bit(bytes, position, end, answer)),
+        4 => {
+            let count = words::index(argument);
+            Some(emdf_host::emdf_take_bits(bytes, position, end, count, answer))
+        }
+        5 => Some(emdf_host::emdf_byte_align(bytes, position, end, answer)),
+        _ => None,
     }
 }

@@ -11,7 +11,7 @@ ghost use Rattle.std.specs.Io.KnownBytes.{IsAtEnd};
 ghost use Rattle.emdf_text.specs.Counts.{IsPrefixLen};
 ghost use Rattle.emdf_replay.specs.Places.{CasePast};
 
-use list::{LineAnswer, Outcome, Tally};
+use list::Tally;
 use std::io::Read;
 use std::rt::Files;
 use std::{fs, io};
@@ -32,19 +32,12 @@ enum ListKind {
     Carriers,
 }
 
-// A line's case: where the next line starts, and whether the answers are the same.
-#[derive(Clone, Copy)]
-enum CaseAnswer {
-    Case(usize, bool),
-    Bad,
-}
-
 fn main(rt: HostRuntime) {
-    replay_file(&rt, ListKind::Bits, b"bits", "bits.txt");
-    replay_file(&rt, ListKind::Carriers, b"carriers", "carriers.txt");
+    replay_file(&rt, ListKind::Bits, "bits", "bits.txt");
+    replay_file(&rt, ListKind::Carriers, "carriers", "carriers.txt");
 }
 
-fn replay_file(rt: &(impl Files + Print + Eprint), kind: ListKind, name: &[u8], path: &str) {
+fn replay_file(rt: &(impl Files + Print + Eprint), kind: ListKind, name: &str, path: &str) {
     let mut space = list_space();
     match read_list(rt, path, &mut space) {
         Ok(Some(n)) => replay(rt, kind, name, &space[..n]),
@@ -59,11 +52,7 @@ fn read_list(rt: &(impl Files + Print), path: &str, space: &mut [u8]) -> io::Res
 {
     let mut file = fs::open(rt, path)?;
     let n = emdf_text::read_full(&mut file, space)?;
-    if is_read(rt, &mut file, path)? {
-        Ok(Some(n))
-    } else {
-        Ok(None)
-    }
+    Ok(is_read(rt, &mut file, path)?.then_some(n))
 }
 
 // Nothing is left to read: a part of a list must not pass for the whole.
@@ -85,15 +74,15 @@ fn list_space() -> [u8; MOST_BYTES]
     [0; MOST_BYTES]
 }
 
-fn replay(rt: &impl Print, kind: ListKind, name: &[u8], text: &[u8]) {
+fn replay(rt: &impl Print, kind: ListKind, name: &str, text: &[u8]) {
     let mut tally = Tally {
         cases: 0,
         differ: 0,
     };
     let mut at: usize = 0;
+    // No `for` over split_inclusive: in a function that is generic over rt the check refuses what it makes of the invariant.
     while at < text.len() {
-        let answer = case_at(kind, text, at);
-        let CaseAnswer::Case(next, same) = answer else {
+        let Some((next, same)) = case_at(kind, text, at) else {
             list::print_bad_line(rt, name, tally);
             return;
         };
@@ -103,57 +92,38 @@ fn replay(rt: &impl Print, kind: ListKind, name: &[u8], text: &[u8]) {
     list::print_tally(rt, name, tally);
 }
 
-// The case on the line at index at.
-fn case_at(kind: ListKind, text: &[u8], at: usize) -> CaseAnswer
+// The case on the line at index at: where the next line starts, and whether the answers are the same.
+fn case_at(kind: ListKind, text: &[u8], at: usize) -> Option<(usize, bool)>
     ensures { CasePast at result }
 {
     let mut numbers = [0u64; MOST_NUMBERS];
-    let line = list::line_at(text, at, &mut numbers);
-    let LineAnswer::Line(count, next) = line else {
-        return CaseAnswer::Bad;
-    };
-    match list_outcome(kind, &numbers[..count]) {
-        Outcome::Same => CaseAnswer::Case(next, true),
-        Outcome::Differs => CaseAnswer::Case(next, false),
-        Outcome::Bad => CaseAnswer::Bad,
-    }
+    let (count, next) = list::line_at(text, at, &mut numbers)?;
+    let same = list_outcome(kind, &numbers[..count])?;
+    Some((next, same))
 }
 
 // A case of the bit calls has its call's number before the bytes.
-fn list_outcome(kind: ListKind, numbers: &[u64]) -> Outcome {
+fn list_outcome(kind: ListKind, numbers: &[u64]) -> Option<bool> {
     match kind {
         ListKind::Bits => {
-            if numbers.len() == 0 {
-                return Outcome::Bad;
-            }
-            line_outcome(kind, numbers[0], &numbers[1..])
+            let (call, rest) = numbers.split_first()?;
+            line_outcome(kind, *call, rest)
         }
         ListKind::Carriers => line_outcome(kind, 0, numbers),
     }
 }
 
 // length byte*length, and what is compared.
-fn line_outcome(kind: ListKind, call: u64, numbers: &[u64]) -> Outcome {
-    let count = numbers.len();
-    if count < 1 {
-        return Outcome::Bad;
-    }
-    let length = words::index(numbers[0]);
-    if count - 1 < length {
-        return Outcome::Bad;
-    }
-    if MOST_CASE_BYTES < length {
-        return Outcome::Bad;
-    }
+fn line_outcome(kind: ListKind, call: u64, numbers: &[u64]) -> Option<bool> {
+    let (length, numbers) = numbers.split_first()?;
+    let (values, rest) = numbers.split_at_checked(words::index(*length))?;
     let mut space = [0u8; MOST_CASE_BYTES];
-    let past = 1 + length;
-    if !words::put_bytes(&mut space, &numbers[1..past]) {
-        return Outcome::Bad;
-    }
-    case_outcome(kind, call, &space[..length], &numbers[past..])
+    let bytes = space.get_mut(..values.len())?;
+    words::put_bytes(bytes, values)?;
+    case_outcome(kind, call, bytes, rest)
 }
 
-fn case_outcome(kind: ListKind, call: u64, bytes: &[u8], rest: &[u64]) -> Outcome {
+fn case_outcome(kind: ListKind, call: u64, bytes: &[u8], rest: &[u64]) -> Option<bool> {
     match kind {
         ListKind::Bits => bits::outcome(call, bytes, rest),
         ListKind::Carriers => carriers::outcome(bytes, rest),

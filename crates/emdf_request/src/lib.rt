@@ -58,12 +58,9 @@ pub fn place_exists(request: Request, count: usize) -> bool
     ensures { result ≡ place_exists (edit_of request [] []) count }
 {
     match request {
-        Request::Body(place) => place < count,
-        Request::Settings(place, _) => place < count,
-        Request::Drop(place) => place < count,
+        Request::Body(place) | Request::Settings(place, _) | Request::Drop(place) => place < count,
         Request::Insert(place, _, _) => place <= count,
-        Request::Key(_) => true,
-        Request::Protection => true,
+        Request::Key(_) | Request::Protection => true,
     }
 }
 
@@ -71,43 +68,23 @@ pub fn place_exists(request: Request, count: usize) -> bool
 pub fn stretch_of(request: Request) -> Stretch
     ensures { result ≡ stretch_of request }
 {
-    match request {
-        Request::Body(place) => Stretch {
-            place,
-            from: Edge::Size,
-            to: Edge::Next,
-            kept: Edge::Protection,
-        },
-        Request::Settings(place, _) => Stretch {
-            place,
-            from: Edge::Config,
-            to: Edge::Size,
-            kept: Edge::Protection,
-        },
-        Request::Drop(place) => Stretch {
-            place,
-            from: Edge::Id,
-            to: Edge::Next,
-            kept: Edge::Protection,
-        },
-        Request::Insert(place, _, _) => Stretch {
-            place,
-            from: Edge::Id,
-            to: Edge::Id,
-            kept: Edge::Protection,
-        },
-        Request::Key(_) => Stretch {
-            place: 0,
-            from: Edge::Key,
-            to: Edge::First,
-            kept: Edge::Protection,
-        },
-        Request::Protection => Stretch {
-            place: 0,
-            from: Edge::Codes,
-            to: Edge::End,
-            kept: Edge::End,
-        },
+    let (place, from, to) = match request {
+        Request::Body(place) => (place, Edge::Size, Edge::Next),
+        Request::Settings(place, _) => (place, Edge::Config, Edge::Size),
+        Request::Drop(place) => (place, Edge::Id, Edge::Next),
+        Request::Insert(place, _, _) => (place, Edge::Id, Edge::Id),
+        Request::Key(_) => (0, Edge::Key, Edge::First),
+        Request::Protection => (0, Edge::Codes, Edge::End),
+    };
+    let kept = match request {
+        Request::Protection => Edge::End,
+        _ => Edge::Protection,
+    };
+    Stretch {
+        place,
+        from,
+        to,
+        kept,
     }
 }
 
@@ -161,8 +138,5 @@ fn payload_brought(id: u64, config: EmdfPayloadConfig, body: &[u8]) -> Brought
 fn writable_payload(id: u64, config: EmdfPayloadConfig) -> bool
     ensures { result ≡ writable_payload (record { id = id; config = config; body = [] }) }
 {
-    if id == 0 {
-        return false;
-    }
-    emdf_measure::writable_config(config)
+    id != 0 && emdf_measure::writable_config(config)
 }

@@ -9,20 +9,19 @@ use native.Mathlib.Omega.{arith}
 use lib.Dec.{eqb}
 use lib.ListN.{length, get_or, take, drop, replicate, length-append, length-drop, take-append-drop}
 use lib.Seq.{sets, sets-eq, length-take-le, drop-cons, drop-append_seam, get_or-append_seam}
+use Rattle.std.specs.Prelude.{Option, Some, None, Ok}
 use Rattle.openjoc_bitio.specs.Bits.{bits_value}
 use Rattle.openjoc_bitio.proofs.Bits.{value-append, value-drop}
 use Rattle.openjoc_bitio.specs.declared.BitCursor.{BitCursor}
+use Rattle.openjoc_bitio.proofs.Results.{some-same, none-is-not-some}
 use Rattle.emdf_format.specs.Reader.{cursor_at}
 use Rattle.emdf_format.specs.Reading.{Found, payloads_of}
 use Rattle.emdf_format.specs.Ordinals.{ordinal_at, ids_of, ids_in, rows_from, rows_of}
 use Rattle.emdf_format.proofs.Bytes.{sets-append}
-use Rattle.emdf_format.specs.declared.Optional.{Optional}
-use Rattle.emdf_format.specs.declared.Optional.TheVariants.{Absent, Present}
 use Rattle.emdf_format.specs.declared.EmdfPayloadConfig.{EmdfPayloadConfig}
 use Rattle.emdf_format.specs.declared.PayloadRecord.{PayloadRecord}
 use Rattle.emdf_format.specs.declared.PayloadRow.{PayloadRow}
 use Rattle.emdf_fields.specs.Word.{top}
-use Rattle.emdf_payloads.specs.declared.PayloadStep.{PayloadStep}
 use Rattle.emdf_payloads.specs.Payloads.{Listed, step_at}
 use Rattle.emdf_payloads.proofs.Walk.{listed-step}
 use Rattle.emdf_payloads.specs.Compact.{CompactAt, compact_record, compact_step}
@@ -37,10 +36,10 @@ use Rattle.emdf_rows.proofs.Stored.{words-stored, words-one, words-then}
 
 -- ---- a row
 
-length-optional : (o : Optional) → length (optional_words o) ≡ 2
+length-optional : (o : Option ℕ) → length (optional_words o) ≡ 2
 unfolding optional_words
-length-optional Absent = refl
-length-optional (Present v) = refl
+length-optional None = refl
+length-optional (Some v) = refl
 
 length-config : (t : EmdfPayloadConfig) → length (config_words t) ≡ 18
 unfolding config_words
@@ -165,10 +164,10 @@ module _ {s table slots complete ids : List ℕ} {at : BitCursor} {place count :
       let w = l.tracks.within x in
       (w, omega (arith, last-most (id_column table) (ordinal_column table) ids x (searched slots x place) (omega arith) (λ j k. l.numbers j (omega arith))))
 
-  pub left-payload : place < count → (row : PayloadRecord) × (next : BitCursor) × (step_at s at ≡ PayloadStep.Payload row next)
+  pub left-payload : place < count → (row : PayloadRecord) × (next : BitCursor) × (step_at s at ≡ Ok (Some row, next))
   left-payload h = go l.found l.listed l.counted
     where
-      go : (xs : List Found) → Listed s at xs → place + length xs ≡ count → (row : PayloadRecord) × (next : BitCursor) × (step_at s at ≡ PayloadStep.Payload row next)
+      go : (xs : List Found) → Listed s at xs → place + length xs ≡ count → (row : PayloadRecord) × (next : BitCursor) × (step_at s at ≡ Ok (Some row, next))
       go [] k e = absurd (omega arith)
       go (x ∷ xs) k e = let d = listed-step s at x xs k in (x.record_of, d.next, d.is)
 
@@ -180,7 +179,7 @@ module _ {s table slots complete ids : List ℕ} {at : BitCursor} {place count :
       go [] e r = r
       go (x ∷ xs) e r = absurd (omega arith)
 
-  module _ {row : PayloadRecord} {next : BitCursor} {exit slots' : List ℕ} (e : step_at s at ≡ PayloadStep.Payload row next) (p : PutsNumbered table slots place row exit slots') (h : place < length ids) (room : place * 224 + 224 ≤ length table) where
+  module _ {row : PayloadRecord} {next : BitCursor} {exit slots' : List ℕ} (e : step_at s at ≡ Ok (Some row, next)) (p : PutsNumbered table slots place row exit slots') (h : place < length ids) (room : place * 224 + 224 ≤ length table) where
     pub left_step : Left s next ids (place + 1) count exit slots' complete
     unfolding ids_of payloads_of
     left_step = go l.found l.listed l.counted l.ahead l.rows
@@ -189,8 +188,7 @@ module _ {s table slots complete ids : List ℕ} {at : BitCursor} {place count :
         go [] k n a r = absurd (omega (arith, ap length a, length-drop place ids))
         go (x ∷ xs) k n a r =
             let d = listed-step s at x xs k in
-            let f : x.record_of ≡ row = cc d.is in
-            let g : d.next ≡ next = cc d.is in
+            let (f, g) = some-same (sym d.is ∙ e) in
             let b : get_or ids place 0 ∷ drop (suc place) ids ≡ x.record_of.id ∷ ids_in xs = sym (drop-cons ids place 0 h) ∙ a in
             let i : get_or ids place 0 ≡ row.id = cc in
             let m : drop (suc place) ids ≡ ids_in xs = cc in
@@ -210,15 +208,12 @@ module _ {s table slots complete ids : List ℕ} {at : BitCursor} {place count :
 
 -- ---- the next payload
 
-pub same-payload : {step : PayloadStep} {r r' : PayloadRecord} {next next' : BitCursor} → step ≡ PayloadStep.Payload r next → step ≡ PayloadStep.Payload r' next' → (r ≡ r') × (next ≡ next')
-same-payload a b = (cc, cc)
-
 -- where a payload stands, what is compact there is that payload
 module _ {s : List ℕ} {e p : ℕ} {k : CompactPayload} {r : PayloadRecord} {next : BitCursor} where
-  pub compact-payload : CompactAt s e p k → 0 < k.length → step_at s (cursor_at e p) ≡ PayloadStep.Payload r next → (compact_record k p ≡ r) × (cursor_at e (p + k.length) ≡ next)
+  pub compact-payload : CompactAt s e p k → 0 < k.length → step_at s (cursor_at e p) ≡ Ok (Some r, next) → (compact_record k p ≡ r) × (cursor_at e (p + k.length) ≡ next)
   unfolding compact_step
   compact-payload a h f = by-id (eqb (top 5 k.word) 0) refl (sym (a.is h) ∙ f)
     where
-      by-id : (t : Bool) → eqb (top 5 k.word) 0 ≡ t → compact_step k e p ≡ PayloadStep.Payload r next → (compact_record k p ≡ r) × (cursor_at e (p + k.length) ≡ next)
-      by-id true z g = absurd (let g' = rw z at g in let w : ◌≡◌ {A = ℕ} 0 1 = cc in omega arith)
-      by-id false z g = let g' : PayloadStep.Payload (compact_record k p) (cursor_at e (p + k.length)) ≡ PayloadStep.Payload r next = rw z at g in same-payload refl g'
+      by-id : (t : Bool) → eqb (top 5 k.word) 0 ≡ t → compact_step k e p ≡ Ok (Some r, next) → (compact_record k p ≡ r) × (cursor_at e (p + k.length) ≡ next)
+      by-id true z g = absurd (none-is-not-some (rw z at g))
+      by-id false z g = some-same (rw z at g)

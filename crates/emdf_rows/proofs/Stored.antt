@@ -1,38 +1,29 @@
 -- Laws of numbers stored in their byte form. Assumes nothing.
 use mathlib.Core.Path.{◌≡◌, refl, sym, ap, ◌∙◌}
 use mathlib.Core.List.{List, [], ◌∷◌, ◌++◌, append-nil, append_assoc}
-use Prim.Native.Nat.{ℕ, suc, ◌+◌, ◌-◌, ◌*◌, ◌/◌, ◌%◌, ◌^◌, ◌<◌}
+use Prim.Native.Nat.{ℕ, suc, ◌+◌, ◌*◌, ◌<◌, ◌≤◌}
 use native.Mathlib.Nat.{zero-add, div-one, le_refl}
 use native.Mathlib.Numerals.{add-one}
 use native.Mathlib.Omega.{arith}
-use lib.Dec.{lit<}
-use lib.ListN.{length, set, drop, get_or}
-use lib.Seq.{sets, sets-eq, drop-cons, drop-length}
-use Rattle.openjoc_bitio.specs.Bits.{swap_octets}
-use Rattle.openjoc_bitio.proofs.Bits.{swap-octet}
+use lib.ListN.{length, drop, get_or}
+use lib.Seq.{sets, sets-eq, drop-cons, drop-drop, drop-length}
+use mir.Syntax.{w64}
+use borrow.Rule.Slice.PartMut.{put_mid}
+use Rattle.std.specs.Int.{to_be_bytes}
 use Rattle.emdf_format.proofs.Bytes.{sets-append}
 use Rattle.emdf_answers.specs.Form.{big_endian, words}
 use Rattle.emdf_answers.proofs.Form.{length-big-endian, length-words}
 
--- the octets of a word, each by its own store, from the word that has them in the machine's order
-module _ (l : List ℕ) (at v : ℕ) (h : v < 2 ^ 64) where
-  octet : (k : ℕ) → k < 8 → swap_octets v / 2 ^ (8 * k) % 256 ≡ v / 2 ^ (8 * (7 - k)) % 256
-  octet k = swap-octet v k h
+-- std's octets of a word
+octets-of : (v : ℕ) → to_be_bytes w64 v ≡ big_endian 8 v
+unfolding big_endian
+octets-of v = rw div-one
 
-  pub octets-stored : {x : ℕ} → x ≡ swap_octets v
-      → set (set (set (set (set (set (set (set l at (x % 256)) (at + 1) (x / 2 ^ 8 % 256)) (at + 2) (x / 2 ^ 16 % 256)) (at + 3) (x / 2 ^ 24 % 256)) (at + 4) (x / 2 ^ 32 % 256)) (at + 5) (x / 2 ^ 40 % 256)) (at + 6) (x / 2 ^ 48 % 256)) (at + 7) (x / 2 ^ 56 % 256)
-      ≡ sets l at (big_endian 8 v)
-  unfolding big_endian
-  octets-stored e =
-      let first : swap_octets v % 256 ≡ v / 2 ^ 56 % 256 = rw div-one at (octet 0 (lit< tt)) in
-      let b : at + 1 ≡ suc at = omega arith in
-      let c : at + 2 ≡ suc (suc at) = omega arith in
-      let d : at + 3 ≡ suc (suc (suc at)) = omega arith in
-      let f : at + 4 ≡ suc (suc (suc (suc at))) = omega arith in
-      let g : at + 5 ≡ suc (suc (suc (suc (suc at)))) = omega arith in
-      let i : at + 6 ≡ suc (suc (suc (suc (suc (suc at))))) = omega arith in
-      let j : at + 7 ≡ suc (suc (suc (suc (suc (suc (suc at)))))) = omega arith in
-      rw (e, first, octet 1 (lit< tt), octet 2 (lit< tt), octet 3 (lit< tt), octet 4 (lit< tt), octet 5 (lit< tt), octet 6 (lit< tt), octet 7 (lit< tt), div-one, b, c, d, f, g, i, j)
+-- a word's octets written over as many
+pub octets-stored : {xs : List ℕ} {k : ℕ} (l : List ℕ) (at v : ℕ) → xs ≡ to_be_bytes w64 v → k ≡ 8 → at + 8 ≤ length l → put_mid at k l xs ≡ sets l at (big_endian 8 v)
+octets-stored l at v e f h =
+    let n : at + length (big_endian 8 v) ≤ length l = omega (arith, length-big-endian 8 v) in
+    rw (e ∙ octets-of v, f, drop-drop, sets-eq (big_endian 8 v) l at n, length-big-endian, append_assoc)
 
 -- a word stored, and the words after it
 pub words-stored : (l : List ℕ) (i v : ℕ) (vs : List ℕ) → sets (sets l i (big_endian 8 v)) (i + 8) (words vs) ≡ sets l i (words (v ∷ vs))

@@ -1,10 +1,9 @@
 -- A payload's row in a host's table. Assumes nothing.
-use Rattle.std.specs.Prelude.{◌≡◌, List, ℕ, suc, ◌*◌, ◌≤◌, ◌<◌, ◌^◌}
+use Rattle.std.specs.Prelude.{◌≡◌, List, ℕ, suc, ◌*◌, ◌≤◌, ◌<◌, ◌^◌, Some, Ok}
 use Rattle.std.proofs.lemmas.List.Edits.{sets}
 use Rattle.openjoc_bitio.specs.declared.BitCursor.{BitCursor}
 use Rattle.emdf_format.specs.declared.PayloadRecord.{PayloadRecord}
 use Rattle.emdf_payloads.specs.Payloads.{step_at}
-use Rattle.emdf_payloads.specs.declared.PayloadStep.TheVariants.{Payload}
 use Rattle.emdf_ordinals.specs.Rows.{searched, slots_with, last_ordinal, column_at}
 use Rattle.emdf_answers.specs.Form.{row_bytes, words}
 use Rattle.emdf_answers.specs.Carriers.{row_words}
@@ -34,4 +33,4 @@ pub record PutsNumbered (table slots : List ℕ) (place : ℕ) (payload : Payloa
 -- where a payload stands at c: its row is stored, and the cursor past it is answered
 abbrev pub PutsRow : List ℕ → BitCursor → List ℕ → List ℕ → ℕ → BitCursor → List ℕ → List ℕ → Type 0
 PutsRow s c table slots place past exit slots' =
-    (found : PayloadRecord) (next : BitCursor) → step_at s c ≡ Payload found next → PutsNumbered table slots place found exit slots' × (past ≡ next)
+    (found : PayloadRecord) (next : BitCursor) → step_at s c ≡ Ok (Some found, next) → PutsNumbered table slots place found exit slots' × (past ≡ next)

@@ -17,9 +17,9 @@ ghost use Rattle.emdf_ordinals.specs.Rows.{slots_with};
 ghost use Rattle.emdf_rows.specs.Rows.{last_in, Searchable, PutsRow};
 
 use emdf_answers::{BitReply, FieldReply};
-use emdf_format::{BodyAnswer, EditAnswer, Figures, FindAnswer, PayloadRecord, RecordsError};
-use emdf_payloads::PayloadStep;
-use openjoc_bitio::BitCursor;
+use emdf_format::{BodyError, EditError, Figures, FindError, PayloadRecord, RecordsError};
+use emdf_refusals::Numbered;
+use openjoc_bitio::{BitCursor, BitOffset, ByteCount};
 
 // A payload's row: 28 numbers, its ordinal the last.
 pub const ROW_BYTES: usize = 224;
@@ -32,9 +32,7 @@ const FEW_PAYLOADS: usize = 64;
 pub fn put_reply(answer: &mut [u8; 48], reply: BitReply) -> u32
     ensures { BitReplies reply result answer.new }
 {
-    let values = reply_words(reply);
-    put_words(answer, 0, &values);
-    reply.number
+    put_answer(answer, reply.number, &reply_words(reply))
 }
 
 // The groups stand last.
@@ -42,8 +40,7 @@ pub fn put_field(answer: &mut [u8; 56], field: FieldReply) -> u32
     ensures { FieldReplies field result answer.new }
 {
     let reply = field.reply;
-    let values = reply_words(reply);
-    put_words(answer, 0, &values);
+    put_words(answer, 0, &reply_words(reply));
     put_word(answer, 48, field.groups);
     reply.number
 }
@@ -61,18 +58,18 @@ fn reply_words(reply: BitReply) -> [u64; 6]
     ]
 }
 
+#[tactic(auto, unfolding(emdf_answers::specs::Carriers::read_reply))]
 pub fn put_refusal(answer: &mut [u8; 80], why: RecordsError) -> u32
     ensures { Replies (read_reply (unrecorded why)) result answer.new }
 {
-    let f = emdf_refusals::figures_of(emdf_refusals::records_refusal(why));
+    let f = why.figures();
     put_reading(answer, f.number, emdf_answers::figure_words(f))
 }
 
 pub fn put_reading(answer: &mut [u8; 80], number: u32, values: [u64; 10]) -> u32
     ensures { (result ≡ number) × (answer.new ≡ words values) }
 {
-    put_words(answer, 0, &values);
-    number
+    put_answer(answer, number, &values)
 }
 
 // A row for each of count payloads, the first of which stands at c.
@@ -81,12 +78,10 @@ pub fn put_rows(table: &mut [u8], s: &[u8], c: BitCursor, count: usize)
     ensures { (xs : List Found) → Listed s.now c xs → length xs ≡ count → table.new ≡ sets table.old 0 (rows_bytes (rows_of xs)) }
 {
     if count <= FEW_PAYLOADS {
-        let mut slots: [u64; 32] = [0; 32];
-        put_rows_with(table, &mut slots, s, c, count);
-        return;
+        put_rows_with(table, &mut [0; 32], s, c, count);
+    } else {
+        put_rows_with(table, &mut [0; emdf_ordinals::SLOTS], s, c, count);
     }
-    let mut slots: [u64; emdf_ordinals::SLOTS] = [0; emdf_ordinals::SLOTS];
-    put_rows_with(table, &mut slots, s, c, count);
 }
 
 // The same with slots that are all free.
@@ -95,10 +90,8 @@ fn put_rows_with(table: &mut [u8], slots: &mut [u64], s: &[u8], c: BitCursor, co
     ensures { (xs : List Found) → Listed s.now c xs → length xs ≡ count → table.new ≡ sets table.old 0 (rows_bytes (rows_of xs)) }
 {
     let mut at = c;
-    let mut place: usize = 0;
-    while place < count {
+    for place in 0..count {
         at = put_next(table, slots, place, s, at);
-        place += 1;
     }
 }
 
@@ -107,18 +100,16 @@ fn put_next(table: &mut [u8], slots: &mut [u64], place: usize, s: &[u8], c: BitC
     requires { (place * 224 + 224 ≤ length table.old) × Searchable table.old slots.old place }
     ensures { PutsRow s.now c table.old slots.old place result table.new slots.new }
 {
-    let position = c.position;
-    let end = c.end;
-    let found = emdf_payloads::compact_at(s, position, end);
+    let found = emdf_payloads::compact_at(s, c.position, c.end);
     if found.length == 0 {
-        return put_found(table, slots, place, s, BitCursor { position, end });
+        return put_found(table, slots, place, s, c);
     }
-    let record = emdf_payloads::compact_record(found, position);
+    let record = emdf_payloads::compact_record(found, c.position);
     let ordinal = next_ordinal(table, slots, place, record.id);
     put_row(table, place * ROW_BYTES, record, ordinal);
     BitCursor {
-        position: position + found.length,
-        end,
+        position: c.position + found.length,
+        ..c
     }
 }
 
@@ -127,14 +118,15 @@ fn put_found(table: &mut [u8], slots: &mut [u64], place: usize, s: &[u8], c: Bit
     requires { (place * 224 + 224 ≤ length table.old) × Searchable table.old slots.old place }
     ensures { PutsRow s.now c table.old slots.old place result table.new slots.new }
 {
-    let step = emdf_payloads::next_payload(s, c);
-    let PayloadStep::Payload(record, next) = step else {
+    match emdf_payloads::next_payload(s, c) {
+        Ok((Some(record), next)) => {
+            let ordinal = next_ordinal(table, slots, place, record.id);
+            put_row(table, place * ROW_BYTES, record, ordinal);
+            next
+        }
         // An accepted carrier has a payload here.
-        return c;
-    };
-    let ordinal = next_ordinal(table, slots, place, record.id);
-    put_row(table, place * ROW_BYTES, record, ordinal);
-    next
+        Ok((None, _)) | Err(_) => c,
+    }
 }
 
 // The ordinal of a payload with this id after place rows, by these; its slot is taken. Apart from storing the row, which then
@@ -154,20 +146,18 @@ pub fn put_row(table: &mut [u8], at: usize, payload: PayloadRecord, ordinal: u64
     ensures { table.new ≡ sets table.old at (words (row_words (record { payload = payload; ordinal = ordinal }))) }
 {
     put_word(table, at, payload.id);
-    let config = emdf_answers::config_words(payload.config);
-    put_words(table, at + 8, &config);
-    let trace = emdf_answers::trace_words(payload.trace);
-    put_words(table, at + 152, &trace);
+    put_words(table, at + 8, &emdf_answers::config_words(payload.config));
+    put_words(table, at + 152, &emdf_answers::trace_words(payload.trace));
     put_word(table, at + ORDINAL_AT, ordinal);
 }
 
-pub fn put_moved(answer: &mut [u8; 16], moved: BodyAnswer) -> u32
+pub fn put_moved(answer: &mut [u8; 16], moved: Result<(BitOffset, ByteCount), BodyError>) -> u32
     ensures { Replies (two_reply (move_figures moved)) result answer.new }
 {
     put_two(answer, emdf_answers::move_figures(moved))
 }
 
-pub fn put_place(answer: &mut [u8; 16], found: FindAnswer) -> u32
+pub fn put_place(answer: &mut [u8; 16], found: Result<usize, FindError>) -> u32
     ensures { Replies (two_reply (find_figures found)) result answer.new }
 {
     put_two(answer, emdf_answers::find_figures(found))
@@ -176,15 +166,22 @@ pub fn put_place(answer: &mut [u8; 16], found: FindAnswer) -> u32
 pub fn put_two(answer: &mut [u8; 16], f: Figures) -> u32
     ensures { Replies (two_reply f) result answer.new }
 {
-    let values = [f.first, f.second];
-    put_words(answer, 0, &values);
-    f.number
+    put_answer(answer, f.number, &[f.first, f.second])
 }
 
-pub fn put_edited(answer: &mut [u8; 16], edited: EditAnswer) -> u32
+pub fn put_edited(answer: &mut [u8; 16], edited: Result<ByteCount, EditError>) -> u32
     ensures { Replies (two_reply (edited_figures edited)) result answer.new }
 {
     put_two(answer, emdf_answers::edited_figures(edited))
+}
+
+// Numbers that fill an answer, and the number that is returned with them.
+pub fn put_answer(answer: &mut [u8], number: u32, values: &[u64]) -> u32
+    requires { 8 * length values.now ≡ length answer.old }
+    ensures { (result ≡ number) × (answer.new ≡ words values.now) }
+{
+    put_words(answer, 0, values);
+    number
 }
 
 // Numbers, 8 bytes each, from index at on.
@@ -192,10 +189,8 @@ pub fn put_words(out: &mut [u8], at: usize, values: &[u64])
     requires { at + 8 * length values.now ≤ length out.old }
     ensures { out.new ≡ sets out.old at (words values.now) }
 {
-    let mut i: usize = 0;
-    while i < values.len() {
-        put_word(out, at + 8 * i, values[i]);
-        i += 1;
+    for (i, v) in values.iter().enumerate() {
+        put_word(out, at + 8 * i, *v);
     }
 }
 
@@ -204,14 +199,5 @@ fn put_word(out: &mut [u8], at: usize, v: u64)
     requires { at + 8 ≤ length out.old }
     ensures { out.new ≡ sets out.old at (big_endian 8 v) }
 {
-    // The octets in the machine's order: the compiler joins the eight stores.
-    let x = openjoc_bitio::swap_octets(v);
-    out[at] = (x % 256) as u8;
-    out[at + 1] = ((x >> 8) % 256) as u8;
-    out[at + 2] = ((x >> 16) % 256) as u8;
-    out[at + 3] = ((x >> 24) % 256) as u8;
-    out[at + 4] = ((x >> 32) % 256) as u8;
-    out[at + 5] = ((x >> 40) % 256) as u8;
-    out[at + 6] = ((x >> 48) % 256) as u8;
-    out[at + 7] = ((x >> 56) % 256) as u8;
+    out[at..at + 8].copy_from_slice(&v.to_be_bytes());
 }

@@ -2,23 +2,16 @@
 use mathlib.Core.Path.{◌≡◌, refl, sym, ap, ◌∙◌}
 use mathlib.Core.Bool.{Bool, true, false}
 use mathlib.Core.List.{List, [], ◌∷◌, ◌++◌}
-use Prim.Native.Nat.{ℕ, zero, suc, ◌+◌, ◌-◌, ◌*◌, ◌^◌, ◌<◌, ◌≤◌}
+use Prim.Native.Nat.{ℕ, zero, suc, ◌+◌, ◌*◌, ◌^◌, ◌<◌, ◌≤◌}
 use native.Mathlib.Omega.{arith}
 use borrow.Author.Tests.{le-leb, lt-ltb}
 use lib.ListN.{length, get_or, take, drop}
-use lib.Dec.{eqb, lit<}
-use Rattle.std.specs.Prelude.{if◌then◌else◌}
-use Rattle.openjoc_bitio.specs.Cursor.{past, bits_remaining, read_bits}
-use Rattle.openjoc_bitio.specs.declared.BitCursor.{BitCursor}
-use Rattle.openjoc_bitio.specs.declared.BitError.{BitError}
-use Rattle.openjoc_bitio.specs.declared.BitsAnswer.{BitsAnswer}
-use Rattle.openjoc_bitio.specs.declared.BitsAnswer.TheVariants.{Value, Refused}
-use Rattle.openjoc_bitio.proofs.Cursor.{remaining-inside, read-accepted}
+use lib.Dec.{eqb}
+use Rattle.std.specs.Prelude.{if◌then◌else◌, ◌&&◌, Option, Some, None}
+use Rattle.std.specs.List.{list_all, range_with_len}
 use Rattle.emdf_format.specs.Contents.{◌&◌, when_present, up_to, writable_config, Payload, writable_payload, writable_payloads, Contents, writable}
 use Rattle.emdf_format.specs.Edits.{settings_edit, insert_edit, with_at, with_config, with_payloads, cleared, change, place_exists, unchanged, step_to, step}
 use Rattle.emdf_format.specs.declared.EditError.TheVariants.{NotWritable}
-use Rattle.emdf_format.specs.declared.Optional.{Optional}
-use Rattle.emdf_format.specs.declared.Optional.TheVariants.{Absent, Present}
 use Rattle.emdf_format.specs.declared.EmdfPayloadConfig.{EmdfPayloadConfig}
 use Rattle.emdf_measure.proofs.Asked.{stop}
 use Rattle.emdf_answers.specs.Form.{words, number_at}
@@ -29,15 +22,15 @@ use Rattle.emdf_answers.proofs.Carriers.{presence_of, value_of, listed, config-l
 
 -- ---- settings from their numbers
 
-optional-read : (o : Optional) {p v : ℕ} → p ≡ presence_of o → v ≡ value_of o → (if eqb p 0 then Absent else Present v) ≡ o
+optional-read : (o : Option ℕ) {p v : ℕ} → p ≡ presence_of o → v ≡ value_of o → (if eqb p 0 then None else Some v) ≡ o
 unfolding optional_words
-optional-read Absent e f = rw e
-optional-read (Present x) e f = rw (e, f)
+optional-read None e f = rw e
+optional-read (Some x) e f = rw (e, f)
 
-pair_read : (o : Optional) {p v : ℕ} → p ≡ presence_of o → v ≡ value_of o → (if eqb p 0 then eqb v 0 else eqb p 1) ≡ true
+pair_read : (o : Option ℕ) {p v : ℕ} → p ≡ presence_of o → v ≡ value_of o → (if eqb p 0 then eqb v 0 else eqb p 1) ≡ true
 unfolding optional_words
-pair_read Absent e f = rw (e, f)
-pair_read (Present x) e f = rw e
+pair_read None e f = rw (e, f)
+pair_read (Some x) e f = rw e
 
 module _ (t : EmdfPayloadConfig) (below : (k : ℕ) → get_or (config_words t) k 0 < 2 ^ 64) where
   abbrev row : List ℕ
@@ -47,11 +40,11 @@ module _ (t : EmdfPayloadConfig) (below : (k : ℕ) → get_or (config_words t) 
   number k h =
       number_read (config_words t) k (rw (← config-listed t) h) (below k) ∙ ap (λ (l : List ℕ). get_or l k 0) (sym (config-listed t))
 
-  optional : (o : Optional) (k : ℕ) → k < 17 → get_or (listed t) k 0 ≡ presence_of o → get_or (listed t) (k + 1) 0 ≡ value_of o → optional_at row k ≡ o
+  optional : (o : Option ℕ) (k : ℕ) → k < 17 → get_or (listed t) k 0 ≡ presence_of o → get_or (listed t) (k + 1) 0 ≡ value_of o → optional_at row k ≡ o
   unfolding optional_at
   optional o k h e f = optional-read o (number k (omega arith) ∙ e) (number (k + 1) (omega arith) ∙ f)
 
-  pair : (o : Optional) (k : ℕ) → k < 17 → get_or (listed t) k 0 ≡ presence_of o → get_or (listed t) (k + 1) 0 ≡ value_of o → pair_formed row k ≡ true
+  pair : (o : Option ℕ) (k : ℕ) → k < 17 → get_or (listed t) k 0 ≡ presence_of o → get_or (listed t) (k + 1) 0 ≡ value_of o → pair_formed row k ≡ true
   unfolding pair_formed
   pair o k h e f = pair_read o (number k (omega arith) ∙ e) (number (k + 1) (omega arith) ∙ f)
 
@@ -147,38 +140,15 @@ module _ (s : List ℕ) (outside : (eqb (length s) 144 & settings_formed s) ≡ 
 
 -- ---- settings as the code reads them
 
-abbrev at_number : ℕ → BitCursor
-at_number k = record { position = 64 * k; end = 64 * k + 64 }
+and-same : (a b : Bool) → (a && b) ≡ (a & b)
+unfolding ◌&◌
+and-same true b = refl
+and-same false b = refl
 
--- each of the 18 numbers is there
-module _ (s : List ℕ) (k : ℕ) (l : length s ≡ 144) (h : k < 18) {a : BitsAnswer} (e : a ≡ read_bits s (at_number k) 64) where
-  number_is : a ≡ Value (number_at s k) (past (at_number k) 64)
-  unfolding number_at
-  number_is =
-      let r : bits_remaining s (at_number k) ≡ 64 = remaining-inside s (at_number k) (rw l (lit< tt)) (omega arith) ∙ omega arith in
-      e ∙ read-accepted s (at_number k) 64 (omega arith) (omega arith)
-
-  pub number-value : {v : ℕ} {c : BitCursor} → a ≡ Value v c → v ≡ number_at s k
-  number-value f = let g = number_is in cc
-
-  pub number-there : {why : BitError} → a ≡ Refused why → ⊥
-  number-there f = let g = number_is in let w : ◌≡◌ {A = ℕ} 0 1 = cc in omega arith
-
-pub pairs-all : (s : List ℕ) (first count : ℕ) → pairs_formed s (first + 2 * 0) (count - 0) ≡ pairs_formed s first count
-pairs-all s first count =
-    let e : first + 2 * 0 ≡ first = omega arith in
-    let f : count - 0 ≡ count = omega arith in
-    rw (e, f)
-
--- the i-th pair, and those after it
-pub pairs_next : (s : List ℕ) (first i count : ℕ) → i < count
-    → pairs_formed s (first + 2 * i) (count - i) ≡ pair_formed s (first + 2 * i) & pairs_formed s (first + 2 * (i + 1)) (count - (i + 1))
+-- n pairs from the i-th on, asked one after another
+pub pairs-asked : (s : List ℕ) (first i n : ℕ) → list_all (λ k. pair_formed s (first + 2 * k)) (range_with_len i n) ≡ pairs_formed s (first + 2 * i) n
 unfolding pairs_formed
-pairs_next s first i count h =
-    let e : count - i ≡ suc (count - (i + 1)) = omega arith in
-    let f : first + 2 * (i + 1) ≡ first + 2 * i + 2 = omega arith in
-    rw (e, f)
-
-pub pairs-none : (s : List ℕ) (k n : ℕ) → n ≡ 0 → pairs_formed s k n ≡ true
-unfolding pairs_formed
-pairs-none s k n e = rw e
+pairs-asked s first i zero = refl
+pairs-asked s first i (suc n) =
+    let e : first + 2 * (i + 1) ≡ first + 2 * i + 2 = omega arith in
+    rw (pairs-asked s first (i + 1) n, e) (and-same (pair_formed s (first + 2 * i)) (pairs_formed s (first + 2 * i + 2) n))

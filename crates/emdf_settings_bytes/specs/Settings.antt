@@ -1,14 +1,12 @@
 -- The byte form of settings, as in a row of a reading's table: docs/HOST.md, 'Settings'. Assumes nothing.
-use Rattle.std.specs.Prelude.{ℕ, zero, suc, ◌+◌, Bool, true, List, length, eqb, if◌then◌else◌}
+use Rattle.std.specs.Prelude.{ℕ, zero, suc, ◌+◌, Bool, true, List, length, eqb, if◌then◌else◌, Option, Some, None}
 use Rattle.emdf_format.specs.Contents.{◌&◌}
 use Rattle.emdf_answers.specs.Form.{settings_bytes, number_at}
-use Rattle.emdf_format.specs.declared.Optional.{Optional}
-use Rattle.emdf_format.specs.declared.Optional.TheVariants.{Absent, Present}
 use Rattle.emdf_format.specs.declared.EmdfPayloadConfig.{EmdfPayloadConfig}
 
 -- a setting that may be absent: its presence, and its value
-unfoldable pub optional_at : List ℕ → ℕ → Optional
-optional_at s k = if eqb (number_at s k) 0 then Absent else Present (number_at s (k + 1))
+unfoldable pub optional_at : List ℕ → ℕ → Option ℕ
+optional_at s k = if eqb (number_at s k) 0 then None else Some (number_at s (k + 1))
 
 -- a presence is 0 or 1, and 0 stands behind 0
 unfoldable pub pair_formed : List ℕ → ℕ → Bool
@@ -42,16 +40,16 @@ config_of s =
 abbrev pub unformed : EmdfPayloadConfig
 unformed =
     record {
-      sample_offset = Absent;
-      duration = Absent;
-      group_id = Absent;
+      sample_offset = None;
+      duration = None;
+      group_id = None;
       codec_data_present = 2;
       discard_unknown_payload = 1;
-      payload_frame_aligned = Absent;
-      create_duplicate = Absent;
-      remove_duplicate = Absent;
-      priority = Absent;
-      processing_allowed = Absent;
+      payload_frame_aligned = None;
+      create_duplicate = None;
+      remove_duplicate = None;
+      priority = None;
+      processing_allowed = None;
     }
 
 unfoldable pub settings_of : List ℕ → EmdfPayloadConfig

@@ -5,8 +5,7 @@ ghost use Rattle.std.specs.Prelude.{◌≡◌, ◌+◌, ◌*◌, ◌<◌, ◌≤
 ghost use Rattle.emdf_answers.specs.Form.{number_at};
 ghost use Rattle.emdf_settings_bytes.specs.Settings.{optional_at, pair_formed, pairs_formed, settings_formed, config_of, unformed, settings_of};
 
-use emdf_format::{EmdfPayloadConfig, Optional};
-use openjoc_bitio::{BitCursor, BitsAnswer};
+use emdf_format::EmdfPayloadConfig;
 
 // A payload's settings: 18 numbers.
 const SETTINGS_BYTES: usize = 144;
@@ -15,34 +14,35 @@ const SETTINGS_BYTES: usize = 144;
 pub fn settings_of(s: &[u8]) -> EmdfPayloadConfig
     ensures { result ≡ settings_of s.now }
 {
-    if s.len() != SETTINGS_BYTES {
+    let Ok(bytes) = <&[u8; SETTINGS_BYTES]>::try_from(s) else {
         return unformed_settings();
+    };
+    if settings_formed(bytes) {
+        config_of(bytes)
+    } else {
+        unformed_settings()
     }
-    if !settings_formed(s) {
-        return unformed_settings();
-    }
-    config_of(s)
 }
 
 fn unformed_settings() -> EmdfPayloadConfig
     ensures { result ≡ unformed }
 {
     EmdfPayloadConfig {
-        sample_offset: Optional::Absent,
-        duration: Optional::Absent,
-        group_id: Optional::Absent,
+        sample_offset: None,
+        duration: None,
+        group_id: None,
         codec_data_present: 2,
         discard_unknown_payload: 1,
-        payload_frame_aligned: Optional::Absent,
-        create_duplicate: Optional::Absent,
-        remove_duplicate: Optional::Absent,
-        priority: Optional::Absent,
-        processing_allowed: Optional::Absent,
+        payload_frame_aligned: None,
+        create_duplicate: None,
+        remove_duplicate: None,
+        priority: None,
+        processing_allowed: None,
     }
 }
 
-fn config_of(s: &[u8]) -> EmdfPayloadConfig
-    requires { length s.now ≡ 144 }
+#[tactic(auto, unfolding(crate::specs::Settings::config_of))]
+fn config_of(s: &[u8; SETTINGS_BYTES]) -> EmdfPayloadConfig
     ensures { result ≡ config_of s.now }
 {
     EmdfPayloadConfig {
@@ -60,67 +60,48 @@ fn config_of(s: &[u8]) -> EmdfPayloadConfig
 }
 
 // Whether the eight pairs of a presence and a value are of the form.
-fn settings_formed(s: &[u8]) -> bool
-    requires { length s.now ≡ 144 }
+fn settings_formed(s: &[u8; SETTINGS_BYTES]) -> bool
     ensures { result ≡ settings_formed s.now }
 {
-    if !pairs_formed(s, 0, 3) {
-        return false;
-    }
-    pairs_formed(s, 8, 5)
+    pairs_formed(s, 0, 3) && pairs_formed(s, 8, 5)
 }
 
 // Whether count pairs are, from number first on.
-fn pairs_formed(s: &[u8], first: usize, count: usize) -> bool
-    requires { (length s.now ≡ 144) × (first + 2 * count ≤ 18) }
+fn pairs_formed(s: &[u8; SETTINGS_BYTES], first: usize, count: usize) -> bool
+    requires { first + 2 * count ≤ 18 }
     ensures { result ≡ pairs_formed s.now first count }
 {
-    let mut i: usize = 0;
-    while i < count {
-        if !pair_formed(s, first + 2 * i) {
-            return false;
-        }
-        i += 1;
-    }
-    true
+    (0..count).all(|i| pair_formed(s, first + 2 * i))
 }
 
 // A presence of 1, or one of 0 and the value 0.
-fn pair_formed(s: &[u8], k: usize) -> bool
-    requires { (length s.now ≡ 144) × (k < 17) }
+#[tactic(auto, unfolding(crate::specs::Settings::pair_formed))]
+fn pair_formed(s: &[u8; SETTINGS_BYTES], k: usize) -> bool
+    requires { k < 17 }
     ensures { result ≡ pair_formed s.now k }
 {
-    let presence = number_at(s, k);
-    if presence == 0 {
-        return number_at(s, k + 1) == 0;
+    match number_at(s, k) {
+        0 => number_at(s, k + 1) == 0,
+        presence => presence == 1,
     }
-    presence == 1
 }
 
-fn optional_at(s: &[u8], k: usize) -> Optional
-    requires { (length s.now ≡ 144) × (k < 17) }
+#[tactic(auto, unfolding(crate::specs::Settings::optional_at))]
+fn optional_at(s: &[u8; SETTINGS_BYTES], k: usize) -> Option<u64>
+    requires { k < 17 }
     ensures { result ≡ optional_at s.now k }
 {
-    if number_at(s, k) == 0 {
-        return Optional::Absent;
+    match number_at(s, k) {
+        0 => None,
+        _ => Some(number_at(s, k + 1)),
     }
-    Optional::Present(number_at(s, k + 1))
 }
 
 // Number k of some bytes.
-fn number_at(s: &[u8], k: usize) -> u64
-    requires { (length s.now ≡ 144) × (k < 18) }
+#[tactic(auto, unfolding(emdf_answers::specs::Form::number_at))]
+fn number_at(s: &[u8; SETTINGS_BYTES], k: usize) -> u64
+    requires { k < 18 }
     ensures { result ≡ number_at s.now k }
 {
-    let start = 64 * k;
-    let cursor = BitCursor {
-        position: start,
-        end: start + 64,
-    };
-    let a = cursor.read_bits(s, 64);
-    let BitsAnswer::Value(value, _) = a else {
-        // The 18 numbers are there.
-        return 0;
-    };
-    value
+    openjoc_bitio::octets_at(s, 8 * k)
 }

@@ -7,12 +7,14 @@ use lib.ListN.{length, take, drop, take-append-drop}
 use lib.Seq.{length-take-le}
 use borrow.Author.Tests.{le-leb, lt-leb}
 use native.Mathlib.Decide.{dec_lt}
+use Rattle.std.specs.Prelude.{Result}
+use Rattle.openjoc_emdf.specs.declared.ParsedEmdf.{ParsedEmdf}
+use Rattle.emdf_format.specs.declared.RecordsError.{RecordsError}
 use Rattle.emdf_format.specs.Reading.{Reading, accepted, refusal, reading}
 use Rattle.emdf_format.specs.Ordinals.{rows_of}
 use Rattle.emdf_format.specs.Calls.{in_table, table_after}
 use Rattle.emdf_format.specs.declared.PayloadRow.{PayloadRow}
 use Rattle.emdf_records_plan.specs.Records.{records_answer, GivesRecords}
-use Rattle.emdf_records_plan.specs.declared.RecordsAnswer.{RecordsAnswer}
 
 drop-append : {X : Type 0} (k : ℕ) (xs ys : List X) → k ≤ length xs → drop k (xs ++ ys) ≡ drop k xs ++ ys
 drop-append zero xs ys h = refl
@@ -30,7 +32,7 @@ rest-stays before after (accepted n c) =
     ]
 
 -- what the reading gives of the rows that are lent, it gives of all of them
-pub whole_gives : (s : List ℕ) (xs : List PayloadRow) (rows : ℕ) {r : RecordsAnswer} {ys : List PayloadRow} → rows ≤ length xs
+pub whole_gives : (s : List ℕ) (xs : List PayloadRow) (rows : ℕ) {r : Result ParsedEmdf RecordsError} {ys : List PayloadRow} → rows ≤ length xs
     → GivesRecords (in_table (length (take rows xs)) (reading s)) (take rows xs) r ys
     → (r ≡ records_answer (in_table rows (reading s))) × (ys ++ drop rows xs ≡ table_after (in_table rows (reading s)) xs)
 whole_gives s xs rows h g =

@@ -6,13 +6,13 @@ ghost use Rattle.emdf_format.specs.Reading.{reading};
 ghost use Rattle.emdf_format.specs.Calls.{in_table, table_after};
 ghost use Rattle.emdf_records_plan.specs.Records.{records_answer};
 
-use emdf_format::PayloadRow;
-use emdf_records_plan::RecordsAnswer;
+use emdf_format::{PayloadRow, RecordsError};
+use openjoc_emdf::ParsedEmdf;
 
 // What the reading answers, and the table after it.
 #[derive(Drop)]
 pub struct ReadTable {
-    pub answer: RecordsAnswer,
+    pub answer: Result<ParsedEmdf, RecordsError>,
     pub table: [PayloadRow; 512],
 }
 

@@ -1,4 +1,4 @@
--- Text put at an index, byte by byte and part by part. Assumes nothing.
+-- Text put at an index, part by part. Assumes nothing.
 use mathlib.Core.Path.{◌≡◌, refl, sym, ap, ◌∙◌}
 use mathlib.Core.List.{List, [], ◌∷◌, ◌++◌, append-nil, append_assoc}
 use Prim.Native.Nat.{ℕ, zero, suc, ◌+◌, ◌-◌, ◌≤◌, ◌<◌}
@@ -9,7 +9,7 @@ use native.Mathlib.Nat.{add-zero, zero-add, suc-add}
 use native.Mathlib.Numerals.{add-one}
 use native.Mathlib.Omega.{arith}
 use lib.ListN.{length, get_or, set, take, drop, length-set, length-append}
-use lib.Seq.{length-take-le, take-length, drop-length, take-suc, drop-cons, take-suc-set, drop-nil, drop-set-lt}
+use lib.Seq.{length-take-le, drop-length, drop-cons, take-suc-set, drop-nil, drop-set-lt}
 use Rattle.emdf_text.specs.Counts.{IsPrefixLen}
 use Rattle.emdf_text.specs.Lines.{decimal, spaced, Printed, PrintedWithin}
 
@@ -25,25 +25,10 @@ later n k a b h l =
     let z : k ≡ n + (k - n) = omega arith in
     rw z (drop_more n (k - n) a ∙ ap (drop (k - n)) h ∙ sym (drop_more n (k - n) b))
 
--- ---- bytes
+-- ---- a byte
 
 pub one_byte : (before : List ℕ) (at b : ℕ) → at < length before → Printed before at (b ∷ []) (set before at b) (at + 1)
 one_byte before at b h = record { is = rw add-one (take-suc-set before at b h); rest = drop-set-lt (at + 1) before at b (omega arith); size = refl; inside = rw length-set (omega arith) }
-
--- one byte more of a text
-pub more_bytes : (before text after : List ℕ) (at i : ℕ) → at + i < length after → i < length text
-    → take (at + i) after ≡ take at before ++ take i text
-    → take (at + (i + 1)) (set after (at + i) (get_or text i 0)) ≡ take at before ++ take (i + 1) text
-more_bytes before text after at i h k e =
-    let z : at + (i + 1) ≡ suc (at + i) = omega arith in
-    rw (z, take-suc-set after (at + i) (get_or text i 0) h, e, add-one, take-suc text i 0 k) (append_assoc (take at before) (take i text) (get_or text i 0 ∷ []))
-
-pub more-rest : (before after : List ℕ) (at i b : ℕ) → drop (at + i) after ≡ drop (at + i) before → drop (at + (i + 1)) (set after (at + i) b) ≡ drop (at + (i + 1)) before
-more-rest before after at i b h = drop-set-lt (at + (i + 1)) after (at + i) b (omega arith) ∙ later (at + i) (at + (i + 1)) after before h (omega arith)
-
--- all of it
-pub all-bytes : (before text after : List ℕ) (at i : ℕ) → i ≡ length text → at + i ≤ length after → take (at + i) after ≡ take at before ++ take i text → drop (at + i) after ≡ drop (at + i) before → Printed before at text after (at + i)
-all-bytes before text after at i e l h r = record { is = h ∙ rw (e, take-length); rest = r; size = rw e; inside = l }
 
 -- ---- parts
 

@@ -1,91 +1,136 @@
 -- Laws of a number in text. Assumes nothing.
-use mathlib.Core.Path.{◌≡◌, refl, ◌∙◌}
+use mathlib.Core.Path.{◌≡◌, refl, sym, ap, ◌∙◌}
 use mathlib.Core.List.{List, [], ◌∷◌}
-use mathlib.Core.Bool.{Bool, true, false, cond}
-use Prim.Native.Nat.{ℕ, zero, suc, ◌+◌, ◌-◌, ◌*◌, ◌^◌, ◌<◌, ◌≤◌}
+use mathlib.Core.Bool.{Bool, true, false, cond, ◌&&◌}
+use Prim.Native.Nat.{ℕ, suc, ◌+◌, ◌-◌, ◌*◌, ◌^◌, ◌<◌, ◌≤◌}
+use native.Mathlib.Nat.{add-zero, add-suc, suc-add}
+use native.Mathlib.Decide.{dec_lt}
 use native.Mathlib.Omega.{arith}
-use lib.ListN.{length, get_or, drop, length-drop, drop_of_length-le}
-use lib.Seq.{drop-cons}
+use lib.ListN.{length, get_or, get_or-eq_default, drop, length-drop, length-take}
 use lib.Dec.{ltb, leb}
-use borrow.Author.Tests.{leb-true}
-use Rattle.emdf_text.specs.Text.{digit, digit_step, scan, decimal_at}
-use Rattle.emdf_text.specs.declared.NumberAnswer.{NumberAnswer}
-use Rattle.emdf_text.specs.declared.NumberAnswer.TheVariants.{Number, Nothing}
-use Rattle.emdf_text.specs.declared.DigitStep.{DigitStep}
-use Rattle.emdf_text.specs.declared.DigitStep.TheVariants.{Next, End, TooLarge}
+use borrow.Author.Tests.{lt-ltb, le-ltb, ltb-true}
+use Rattle.std.specs.Prelude.{slice_range, Option, Some, None, Result, Ok, Err}
+use Rattle.std.specs.Char.{is_ascii_digit}
+use Rattle.std.specs.List.{take_while}
+use Rattle.std.specs.Option.{option_map}
+use Rattle.std.specs.Result.{OkIff, result_ok}
+use Rattle.std.specs.Str.{all_ascii_digits, IsUtf8}
+use Rattle.std.specs.Str.Parse.{ParsesUnsigned}
+use Rattle.std.proofs.Common.{rules}
+use Rattle.std.proofs.lemmas.List.{get_or-drop}
+use Rattle.std.proofs.lemmas.List.Sums.{take_while-cons}
+use Rattle.std.proofs.lemmas.Slice.{between_to_end}
+use Rattle.std.proofs.lemmas.Str.{IsUtf8-from_ascii}
+use Rattle.std.proofs.lemmas.Fmt.{IsAscii-from_digits}
+use Rattle.std.proofs.lemmas.Str.Parse.{IsNumeralModel, numerals_by_fold, parse_digits}
+use Rattle.emdf_text.specs.Text.{digit, scan, decimal_at}
 
--- a digit is no less than 48
-digit_low : (b : ℕ) (p : Bool) → leb 48 b ≡ p → cond p (leb b 57) false ≡ true → 48 ≤ b
-digit_low b true e h = leb-true 48 b e
-digit_low b false e h = leb-true 48 b (e ∙ h)
+-- ---- the digits at the start of a text, and the number that they make
 
-pub digit-from : (b : ℕ) → digit b ≡ true → 48 ≤ b
+abbrev pub digits : List ℕ → List ℕ
+digits bs = take_while is_ascii_digit bs
+
+-- with a digit after those that make v
+abbrev more : ℕ → ℕ → ℕ
+more v b = v * 10 + (b - 48)
+
+abbrev value : ℕ → List ℕ → ℕ
+value v [] = v
+value v (b ∷ bs) = value (more v b) bs
+
+value-le : (bs : List ℕ) (v : ℕ) → v ≤ value v bs
+value-le [] v = omega arith
+value-le (b ∷ bs) v = omega (arith, value-le bs (more v b))
+
+digit-is : (b : ℕ) → digit b ≡ is_ascii_digit b
 unfolding digit
-digit-from b h = digit_low b (leb 48 b) refl h
+digit-is b = go (leb 48 b)
+  where
+    go : (t : Bool) → cond t (leb b 57) false ≡ t && leb b 57
+    go true = refl
+    go false = refl
 
--- ---- a scan, a byte at a time
+numeral : IsNumeralModel (λ ds. all_ascii_digits ds ≡ true) (value 0)
+numeral = numerals_by_fold _ (search rules) value (search rules)
 
--- what is left to do after a byte
-unfoldable pub after : DigitStep → ℕ → ℕ → List ℕ → NumberAnswer
-after (Next w) v i bs = scan w (suc i) bs
-after End v i bs = Number v i
-after TooLarge v i bs = Nothing
+all-digits : (bs : List ℕ) → all_ascii_digits (digits bs) ≡ true
+all-digits [] = refl
+all-digits (b ∷ bs) = rw take_while-cons (go (is_ascii_digit b) refl (all-digits bs))
+  where
+    go : (t : Bool) → is_ascii_digit b ≡ t → all_ascii_digits (digits bs) ≡ true → all_ascii_digits (cond t (b ∷ digits bs) []) ≡ true
+    go true e h = rw e h
+    go false e h = refl
 
-scan-cases : (p q : Bool) (w v i : ℕ) (bs : List ℕ)
-    → cond p (cond q (scan w (suc i) bs) Nothing) (Number v i) ≡ after (cond p (cond q (Next w) TooLarge) End) v i bs
-unfolding after
-scan-cases true true w v i bs = refl
-scan-cases true false w v i bs = refl
-scan-cases false q w v i bs = refl
+pub are-text : (bs : List ℕ) → IsUtf8 (digits bs)
+are-text bs = IsUtf8-from_ascii (digits bs) (IsAscii-from_digits (digits bs) (numeral.to (digits bs) (all-digits bs)))
 
-pub scan_step : (s : List ℕ) (v i : ℕ) (step : DigitStep) → i < length s → step ≡ digit_step v (get_or s i 0)
-    → scan v i (drop i s) ≡ after step v i (drop (suc i) s)
-unfolding scan digit_step
-scan_step s v i step h e =
-    let b = get_or s i 0 in
-    rw (drop-cons s i 0, e) (scan-cases (digit b) (ltb (v * 10 + (b - 48)) (2 ^ 64)) (v * 10 + (b - 48)) v i (drop (suc i) s))
+-- ---- a scan, by the digits that it passes
 
-pub scan-end : (s : List ℕ) (v i : ℕ) → length s ≤ i → scan v i (drop i s) ≡ Number v i
+abbrev scanned : ℕ → ℕ → List ℕ → Option (ℕ × ℕ)
+scanned v i ds = cond (ltb (value v ds) (2 ^ 64)) (Some (value v ds, i + length ds)) None
+
+scan-is : (bs : List ℕ) (v i : ℕ) → v < 2 ^ 64 → scan v i bs ≡ scanned v i (digits bs)
 unfolding scan
-scan-end s v i h = rw (drop_of_length-le s h)
+scan-is [] v i h = simp (lt-ltb v (2 ^ 64) h, add-zero)
+scan-is (b ∷ bs) v i h = rw (digit-is, take_while-cons) (go (is_ascii_digit b) (scan-is bs (more v b) (suc i)))
+  where
+    go : (t : Bool) → (more v b < 2 ^ 64 → scan (more v b) (suc i) bs ≡ scanned (more v b) (suc i) (digits bs))
+        → cond t (cond (ltb (more v b) (2 ^ 64)) (scan (more v b) (suc i) bs) None) (Some (v, i)) ≡ scanned v i (cond t (b ∷ digits bs) [])
+    go true rest =
+        elim (dec_lt (more v b) (2 ^ 64)) [
+          | yes l ↦ simp (lt-ltb (more v b) (2 ^ 64) l, rest l, add-suc, suc-add)
+          | no l ↦ simp (le-ltb (more v b) (2 ^ 64) (omega arith), le-ltb (value (more v b) (digits bs)) (2 ^ 64) (omega (arith, value-le (digits bs) (more v b))))
+        ]
+    go false rest = simp (lt-ltb v (2 ^ 64) h, add-zero)
+
+starts : (bs : List ℕ) → digit (get_or bs 0 0) ≡ ltb 0 (length (digits bs))
+starts [] = digit-is 0
+starts (b ∷ bs) = rw (digit-is, take_while-cons) (go (is_ascii_digit b))
+  where
+    go : (t : Bool) → t ≡ ltb 0 (length (cond t (b ∷ digits bs) []))
+    go true = sym (lt-ltb 0 (suc (length (digits bs))) (omega arith))
+    go false = refl
+
+decimal-is : (s : List ℕ) (at : ℕ) → decimal_at s at ≡ (let ds : List ℕ = digits (drop at s) in cond (ltb 0 (length ds)) (scanned 0 at ds) None)
+unfolding decimal_at
+decimal-is s at = rw (← starts (drop at s), get_or-drop, add-zero, scan-is (drop at s) 0 at (omega arith))
+
+pub past : (s : List ℕ) (at : ℕ) → length s ≤ at → decimal_at s at ≡ None
+unfolding digit decimal_at
+past s at h = rw (get_or-eq_default s 0 h)
+
+-- ---- the number, as `parse` reads it
+
+module _ {E : Type 0} (at : ℕ) (ds : List ℕ) where
+  found : (r : Result ℕ E) → OkIff r ((0 < length ds) × (value 0 ds < 2 ^ 64)) (value 0 ds)
+      → cond (ltb 0 (length ds)) (scanned 0 at ds) None ≡ option_map (λ (n : ℕ). (n, at + length ds)) (result_ok r)
+  found (Ok n) h = simp (lt-ltb 0 (length ds) h.0.0, lt-ltb (value 0 ds) (2 ^ 64) h.0.1, h.1)
+  found (Err e) h =
+      elim (dec_lt 0 (length ds)) [
+        | yes some ↦ simp (lt-ltb 0 (length ds) some, le-ltb (value 0 ds) (2 ^ 64) (elim (dec_lt (value 0 ds) (2 ^ 64)) [ yes l ↦ absurd (h (some, l)) | no l ↦ omega arith ]))
+        | no none ↦ simp (le-ltb 0 (length ds) (omega arith))
+      ]
+
+-- rest is what is left from index at on, and ds are its digits
+pub parsed : {E : Type 0} {rest ds : List ℕ} (s : List ℕ) (at : ℕ) (o : Option ℕ) (r : Result ℕ E) → rest ≡ slice_range s at (length s) → ds ≡ digits rest → ParsesUnsigned 64 10 ds r → o ≡ result_ok r
+    → option_map (λ (n : ℕ). (n, at + length ds)) o ≡ decimal_at s at
+parsed {E} {rest} {ds} s at o r p q h e =
+    let d : ds ≡ digits (drop at s) = q ∙ ap digits (p ∙ between_to_end s at (length s) (omega arith)) in
+    rw (decimal-is s at, ← d, e) (sym (found at ds r (parse_digits numeral 64 ds r h (rw d (all-digits (drop at s))))))
 
 -- ---- where a number lies
 
-scan-goes : (q : Bool) (x : NumberAnswer) (w n : ℕ) → cond q x Nothing ≡ Number w n → x ≡ Number w n
-scan-goes true x w n e = e
-scan-goes false x w n e = let z : ◌≡◌ {A = ℕ} 0 1 = cc in absurd (omega arith)
-
-inside-cases : (p q : Bool) (x : NumberAnswer) (v i m w n : ℕ) → (x ≡ Number w n → (suc i ≤ n) × (n ≤ suc i + m))
-    → cond p (cond q x Nothing) (Number v i) ≡ Number w n → (i ≤ n) × (n ≤ i + suc m)
-inside-cases true q x v i m w n f e = let h : (suc i ≤ n) × (n ≤ suc i + m) = f (scan-goes q x w n e) in omega arith
-inside-cases false q x v i m w n f e = let h : i ≡ n = cc in omega arith
-
-scan-inside : (bs : List ℕ) (v i w n : ℕ) → scan v i bs ≡ Number w n → (i ≤ n) × (n ≤ i + length bs)
-unfolding scan
-scan-inside [] v i w n e = let h : i ≡ n = cc in omega arith
-scan-inside (b ∷ bs) v i w n e =
-    inside-cases (digit b) (ltb (v * 10 + (b - 48)) (2 ^ 64)) _ v i (length bs) w n (scan-inside bs (v * 10 + (b - 48)) (suc i) w n) e
-
--- a digit is a byte of the text
-digit-inside : (s : List ℕ) (at : ℕ) → digit (get_or s at 0) ≡ true → at < length s
-unfolding digit
-digit-inside [] at h = let z : 48 ≤ 0 = digit-from 0 h in omega arith
-digit-inside (b ∷ bs) zero h = omega arith
-digit-inside (b ∷ bs) (suc at) h = let k : at < length bs = digit-inside bs at h in omega arith
-
-number-cases : (s : List ℕ) (at v n : ℕ) (p : Bool) → digit (get_or s at 0) ≡ p → cond p (scan 0 at (drop at s)) Nothing ≡ Number v n
-    → (at < n) × (n ≤ length s)
-unfolding scan
-number-cases s at v n true d e =
-    let h : at < length s = digit-inside s at d in
-    let w : ℕ = 0 * 10 + (get_or s at 0 - 48) in
-    let rest : List ℕ = drop (suc at) s in
-    let k : (suc at ≤ n) × (n ≤ suc at + length rest) = scan-inside rest w (suc at) v n (scan-goes (ltb w (2 ^ 64)) (scan w (suc at) rest) v n (rw (drop-cons s at 0 h, d) at e)) in
-    let l : length (drop (suc at) s) ≡ length s - suc at = length-drop (suc at) s in
-    omega arith
-number-cases s at v n false d e = let z : ◌≡◌ {A = ℕ} 0 1 = cc in omega arith
+same-end : {v w m n : ℕ} → ◌≡◌ {A = Option (ℕ × ℕ)} (Some (v, m)) (Some (w, n)) → m ≡ n
+same-end {v} {w} {m} {n} e = let p : ◌≡◌ {A = ℕ × ℕ} (v, m) (w, n) = cc in ap (λ (x : ℕ × ℕ). x.1) p
 
 -- a number has a digit, and ends in the text
-pub number-inside : (s : List ℕ) (at v n : ℕ) → decimal_at s at ≡ Number v n → (at < n) × (n ≤ length s)
-unfolding decimal_at
-number-inside s at v n e = number-cases s at v n (digit (get_or s at 0)) refl e
+pub number-inside : (s : List ℕ) (at v n : ℕ) → decimal_at s at ≡ Some (v, n) → (at < n) × (n ≤ length s)
+number-inside s at v n e = go (ltb 0 (length ds)) (ltb (value 0 ds) (2 ^ 64)) refl (sym (decimal-is s at) ∙ e)
+  where
+    ds : List ℕ
+    ds = digits (drop at s)
+
+    go : (p q : Bool) → ltb 0 (length ds) ≡ p → cond {A = Option (ℕ × ℕ)} p (cond q (Some (value 0 ds, at + length ds)) None) None ≡ Some (v, n) → (at < n) × (n ≤ length s)
+    go true true d e = let l : 0 < length ds = ltb-true 0 (length ds) d in omega (arith, same-end e, length-take {A = ℕ}, length-drop {A = ℕ})
+    go true false d e = let z : ◌≡◌ {A = ℕ} 0 1 = cc in omega arith
+    go false q d e = let z : ◌≡◌ {A = ℕ} 0 1 = cc in omega arith

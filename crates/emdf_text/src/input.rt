@@ -14,6 +14,7 @@ pub fn read_full<R: Read>(reader: &mut R, buf: &mut [u8]) -> io::Result<usize>
     ensures end { IfOk result (λ n. n < length buf.old → IsAtEnd (R.remaining reader.new)) }
 {
     let mut done: usize = 0;
+    // A read may give any number of bytes, so that no `for` counts them.
     while done < buf.len() {
         let n = reader.read(&mut buf[done..])?;
         if n == 0 {

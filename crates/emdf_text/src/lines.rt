@@ -1,4 +1,5 @@
 // Text in a buffer: each function puts it at index at, and answers the index at which it ends.
+// No `write!`: it promises its text of an Ok alone, and here all that has room is put.
 ghost use Rattle.std.specs.Prelude.{◌+◌, ◌*◌, ◌≤◌, ◌<◌, ◌≡◌, [], ◌∷◌, length, leb};
 ghost use Rattle.emdf_text.specs.Lines.{decimal, spaced, line, Printed, PrintedWithin};
 
@@ -19,17 +20,7 @@ pub fn put_line(out: &mut [u8], at: usize, word: &[u8], numbers: &[u64]) -> usiz
 fn has_room(size: usize, at: usize, word: usize, numbers: usize) -> bool
     ensures { result ≡ leb (at + (word + 21 * numbers + 1)) size }
 {
-    if size < at {
-        return false;
-    }
-    let room = size - at;
-    if room <= word {
-        return false;
-    }
-    if (room - word - 1) / 21 < numbers {
-        return false;
-    }
-    true
+    at <= size && word < size - at && numbers <= (size - at - word - 1) / 21
 }
 
 // The numbers, a space before each, and the end of the line.
@@ -39,10 +30,8 @@ fn put_numbers(out: &mut [u8], at: usize, numbers: &[u64]) -> usize
     ensures upper_bound { result ≤ at + 21 * length numbers.now + 1 }
 {
     let mut end = at;
-    let mut i: usize = 0;
-    while i < numbers.len() {
-        end = put_number(out, end, numbers[i]);
-        i += 1;
+    for number in numbers {
+        end = put_number(out, end, *number);
     }
     put_byte(out, end, b'\n')
 }
@@ -72,10 +61,7 @@ pub fn put_decimal(out: &mut [u8], at: usize, number: u64) -> usize
 fn put_bytes(out: &mut [u8], at: usize, bytes: &[u8]) -> usize
     ensures { PrintedWithin (length bytes.now) out.old at bytes.now out.new result }
 {
-    if out.len() < at {
-        return at;
-    }
-    if out.len() - at < bytes.len() {
+    if out.len() < at || out.len() - at < bytes.len() {
         return at;
     }
     copy_bytes(out, at, bytes)
@@ -85,12 +71,9 @@ fn copy_bytes(out: &mut [u8], at: usize, bytes: &[u8]) -> usize
     requires { at + length bytes.now ≤ length out.old }
     ensures { Printed out.old at bytes.now out.new result }
 {
-    let mut i: usize = 0;
-    while i < bytes.len() {
-        out[at + i] = bytes[i];
-        i += 1;
-    }
-    at + i
+    let end = at + bytes.len();
+    out[at..end].copy_from_slice(bytes);
+    end
 }
 
 fn put_byte(out: &mut [u8], at: usize, byte: u8) -> usize

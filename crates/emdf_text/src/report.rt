@@ -4,5 +4,5 @@ use std::io;
 // A line on standard error: what failed, and why.
 pub fn fail(rt: &impl Eprint, what: &str, why: io::Error) {
     // Where standard error takes no line either, nothing is left to do.
-    let _ = rt.eprintln(format_args!("{what}: {why}"));
+    let _ = eprintln!(rt; "{what}: {why}");
 }

@@ -1,49 +1,36 @@
--- Lists that are stored element by element. Assumes nothing.
-use mathlib.Core.Path.{◌≡◌, refl, sym}
-use mathlib.Core.List.{List, [], ◌∷◌}
-use Prim.Native.Nat.{ℕ, zero, suc, ◌+◌, ◌-◌, ◌*◌, ◌≤◌, ◌<◌}
+-- What is stored piece by piece. Assumes nothing.
+use mathlib.Core.Path.{◌≡◌, sym, ◌∙◌}
+use mathlib.Core.List.{List, ◌++◌}
+use Prim.Native.Nat.{ℕ, suc, ◌+◌, ◌*◌, ◌<◌, ◌≤◌, min}
 use native.Mathlib.Omega.{arith}
-use lib.ListN.{length, set, take, drop, get_or, drop_of_length-le}
+use native.Mathlib.Nat.{zero-add, min-le_left}
+use lib.ListN.{length, take, drop, get_or, drop_of_length-le}
 use lib.Seq.{sets, drop-cons}
+use Rattle.std.proofs.lemmas.List.{length-take, take_min}
+use Rattle.std.proofs.lemmas.List.Edits.{sets-eq}
 use Rattle.emdf_format.specs.declared.PayloadRow.{PayloadRow}
 use Rattle.emdf_format.proofs.Bytes.{sets-append}
 use Rattle.emdf_answers.specs.Form.{words}
 use Rattle.emdf_answers.specs.Carriers.{row_words, rows_bytes}
 use Rattle.emdf_rows.proofs.Rows.{length-row}
 
--- the next of n, and those after it
-next : {X : Type 0} (n i : ℕ) (xs : List X) (d : X) → i < n → i < length xs → take (n - i) (drop i xs) ≡ get_or xs i d ∷ take (n - (i + 1)) (drop (i + 1) xs)
-next n i xs d h k =
-    let a : n - i ≡ suc (n - (i + 1)) = omega arith in
-    let b : i + 1 ≡ suc i = omega arith in
-    rw (a, b, drop-cons xs i d k)
+-- as many bytes as there is room for
+pub bytes-stored : (out bytes : List ℕ) (n : ℕ) → n ≡ min (length out) (length bytes) → take n bytes ++ drop n out ≡ sets out 0 (take (length out) bytes)
+bytes-stored out bytes n e =
+    let l : length (take (length out) bytes) ≡ n = length-take (length out) bytes ∙ sym e in
+    let t : take n bytes ≡ take (length out) bytes = rw e (take_min (length out) bytes) in
+    sym (sets-eq (take (length out) bytes) out 0 (omega (arith, l, e, min-le_left (length out) (length bytes))) ∙ rw (zero-add, l, t))
 
--- none is left
-take_none : {X : Type 0} (n : ℕ) → let none : List X = [] in take n none ≡ none
-take_none zero = refl
-take_none (suc n) = refl
-
-pub all-taken : {X : Type 0} (n i : ℕ) (xs : List X) → n ≤ i → take (n - i) (drop i xs) ≡ []
-all-taken n i xs h = let a : n - i ≡ 0 = omega arith in rw a
-
-pub all_there : {X : Type 0} (n i : ℕ) (xs : List X) → length xs ≤ i → take (n - i) (drop i xs) ≡ []
-all_there n i xs h = rw (drop_of_length-le xs h) (take_none (n - i))
-
--- ---- bytes
-
-pub byte-stored : (n i : ℕ) (out bytes : List ℕ) → i < n → i < length bytes → sets (set out i (get_or bytes i 0)) (i + 1) (take (n - (i + 1)) (drop (i + 1) bytes)) ≡ sets out i (take (n - i) (drop i bytes))
-byte-stored n i out bytes h k = let b : i + 1 ≡ suc i = omega arith in rw (next n i bytes 0 h k, b)
-
--- ---- rows
-
-pub row-stored : (n i : ℕ) (table : List ℕ) (rows : List PayloadRow) (d : PayloadRow) → i < n → i < length rows
-    → sets (sets table (i * 224) (words (row_words (get_or rows i d)))) ((i + 1) * 224) (rows_bytes (take (n - (i + 1)) (drop (i + 1) rows))) ≡ sets table (i * 224) (rows_bytes (take (n - i) (drop i rows)))
+-- the row at place i, before those after it
+pub row-stored : (i : ℕ) (table : List ℕ) (rows : List PayloadRow) (d : PayloadRow) → i < length rows
+    → sets (sets table (i * 224) (words (row_words (get_or rows i d)))) ((i + 1) * 224) (rows_bytes (drop (i + 1) rows)) ≡ sets table (i * 224) (rows_bytes (drop i rows))
 unfolding rows_bytes
-row-stored n i table rows d h k =
+row-stored i table rows d h =
     let r = get_or rows i d in
     let e : (i + 1) * 224 ≡ i * 224 + length (words (row_words r)) = omega (arith, length-row r) in
-    rw (next n i rows d h k, e) (sym (sets-append table (i * 224) (words (row_words r)) (rows_bytes (take (n - (i + 1)) (drop (i + 1) rows)))))
+    let s : i + 1 ≡ suc i = omega arith in
+    rw (drop-cons rows i d h, e, s) (sym (sets-append table (i * 224) (words (row_words r)) (rows_bytes (drop (suc i) rows))))
 
-pub rows-done : (n i : ℕ) (table : List ℕ) (rows : List PayloadRow) → n ≤ i → table ≡ sets table (i * 224) (rows_bytes (take (n - i) (drop i rows)))
+pub rows-done : (i : ℕ) (table : List ℕ) (rows : List PayloadRow) → length rows ≤ i → table ≡ sets table (i * 224) (rows_bytes (drop i rows))
 unfolding rows_bytes
-rows-done n i table rows h = rw (all-taken n i rows h)
+rows-done i table rows h = rw (drop_of_length-le rows h)

@@ -1,20 +1,14 @@
 -- What the exported trials return and write. Assumes nothing.
-use Rattle.std.specs.Prelude.{List, Bool, true, false, ℕ, ◌/◌, ◌%◌, take, replicate, leb, eqb, if◌then◌else◌}
+use Rattle.std.specs.Prelude.{List, Bool, true, false, ℕ, ◌/◌, ◌%◌, take, replicate, leb, eqb, if◌then◌else◌, Some, Result, Ok, Err}
+use Rattle.openjoc_emdf.specs.declared.ParsedEmdf.{ParsedEmdf}
 use Rattle.openjoc_bitio.specs.Cursor.{whole_slice, bits_remaining, read_bits, read_bit, take_bits, byte_align}
 use Rattle.openjoc_bitio.specs.declared.BitCursor.{BitCursor}
-use Rattle.openjoc_bitio.specs.declared.BitsAnswer.{BitsAnswer}
-use Rattle.openjoc_bitio.specs.declared.BitAnswer.{BitAnswer}
-use Rattle.openjoc_bitio.specs.declared.WindowAnswer.{WindowAnswer}
-use Rattle.openjoc_bitio.specs.declared.AlignAnswer.{AlignAnswer}
-use Rattle.openjoc_bit_reader.specs.declared.BitsResult.{BitsResult}
-use Rattle.openjoc_bit_reader.specs.declared.BitResult.{BitResult}
-use Rattle.openjoc_bit_reader.specs.declared.MoveResult.{MoveResult}
+use Rattle.emdf_format.specs.declared.EmdfError.{EmdfError}
+use Rattle.emdf_format.specs.declared.RecordsError.{RecordsError}
 use Rattle.emdf_format.specs.Reading.{reading}
-use Rattle.emdf_format.specs.Refusals.{refusal_of, figures_of}
+use Rattle.emdf_format.specs.Refusals.{refusal_of, records_refusal, figures_of}
 use Rattle.emdf_format.specs.Calls.{Records, in_table, table_after}
-use Rattle.emdf_format.specs.declared.Optional.TheVariants.{Present}
 use Rattle.emdf_format.specs.declared.PayloadRow.{PayloadRow}
-use Rattle.openjoc_emdf.specs.declared.ParseAnswer.{ParseAnswer}
 use Rattle.emdf_answers.specs.Bits.{accepted, bits_reply, bit_reply, window_reply, align_reply}
 use Rattle.emdf_answers.specs.Form.{row_bytes}
 use Rattle.emdf_answers.specs.Replies.{Reply, accepted_reply, refused_reply}
@@ -22,23 +16,6 @@ use Rattle.emdf_answers.specs.Carriers.{parsed_words}
 use Rattle.emdf_answers.specs.declared.BitReply.{BitReply}
 
 -- ---- a BitReader's call: what the call at its cursor answers
-
--- a reader's result and the cursor that it is left at, as the answer at a cursor by value
-abbrev pub bits_answer_of : BitsResult → BitCursor → BitsAnswer
-bits_answer_of (BitsResult.Ok v) c = BitsAnswer.Value v c
-bits_answer_of (BitsResult.Err why) c = BitsAnswer.Refused why
-
-abbrev pub bit_answer_of : BitResult → BitCursor → BitAnswer
-bit_answer_of (BitResult.Ok b) c = BitAnswer.Bit b c
-bit_answer_of (BitResult.Err why) c = BitAnswer.Refused why
-
-abbrev pub window_answer_of : MoveResult → BitCursor → BitCursor → WindowAnswer
-window_answer_of MoveResult.Ok w c = WindowAnswer.Window w c
-window_answer_of (MoveResult.Err why) w c = WindowAnswer.Refused why
-
-abbrev pub align_answer_of : MoveResult → BitCursor → AlignAnswer
-align_answer_of MoveResult.Ok c = AlignAnswer.Aligned c
-align_answer_of (MoveResult.Err why) c = AlignAnswer.Refused why
 
 -- the call of this number; a width is a byte
 unfoldable pub reader_reply : ℕ → List ℕ → BitCursor → ℕ → BitReply
@@ -51,11 +28,16 @@ reader_reply k s c n =
     then bits_reply c (read_bits s c (n % 256))
     else (if eqb k 3 then bit_reply c (read_bit s c) else (if eqb k 4 then window_reply c (take_bits s c n) else align_reply c (byte_align s c)))))
 
--- ---- a reading without a table
+-- ---- a reading's answer, as a host is told it
 
-unfoldable pub parse_reply : ParseAnswer → Reply
-parse_reply (ParseAnswer.Parsed p) = accepted_reply (parsed_words p)
-parse_reply (ParseAnswer.Refused why) = refused_reply 10 (figures_of (refusal_of why))
+unfoldable pub told_reading : Result ParsedEmdf RecordsError → Reply
+told_reading (Ok p) = accepted_reply (parsed_words p)
+told_reading (Err why) = refused_reply 10 (figures_of (records_refusal why))
+
+-- of a reading without a table
+unfoldable pub parse_reply : Result ParsedEmdf EmdfError → Reply
+parse_reply (Ok p) = accepted_reply (parsed_words p)
+parse_reply (Err why) = refused_reply 10 (figures_of (refusal_of why))
 
 -- ---- a reading into rows
 
@@ -67,16 +49,16 @@ blank_row = record {
   payload = record {
     id = most;
     config = record {
-      sample_offset = Present most;
-      duration = Present most;
-      group_id = Present most;
+      sample_offset = Some most;
+      duration = Some most;
+      group_id = Some most;
       codec_data_present = most;
       discard_unknown_payload = most;
-      payload_frame_aligned = Present most;
-      create_duplicate = Present most;
-      remove_duplicate = Present most;
-      priority = Present most;
-      processing_allowed = Present most;
+      payload_frame_aligned = Some most;
+      create_duplicate = Some most;
+      remove_duplicate = Some most;
+      priority = Some most;
+      processing_allowed = Some most;
     };
     trace = record {
       payload_id_start_bit = record { 0 = most };

@@ -11,22 +11,18 @@ ghost use Rattle.emdf_format.specs.Profile.{verdict};
 ghost use Rattle.emdf_format.specs.declared.JocValidationProfile.TheVariants.{EtsiStrict};
 ghost use Rattle.emdf_writer.specs.Writing.{number_fits_in, run_fits_in, number_put, bit_by_bit};
 ghost use Rattle.openjoc_emdf.specs.Answers.{parse_answer};
-ghost use Rattle.emdf_answers.specs.Bits.{BitReplies, bits_reply, bit_reply, window_reply, align_reply};
+ghost use Rattle.emdf_answers.specs.Bits.{BitReplies};
 ghost use Rattle.emdf_answers.specs.Replies.{Replies};
 ghost use Rattle.emdf_answers.specs.Carriers.{read_reply, rows_bytes};
 ghost use Rattle.emdf_answers.specs.Verdict.{verdict_reply};
-ghost use Rattle.emdf_trials.specs.Trials.{bits_answer_of, bit_answer_of, window_answer_of, align_answer_of, reader_reply, parse_reply, blank_row, table_rows, read_rows, records_read, told};
+ghost use Rattle.emdf_trials.specs.Trials.{reader_reply, parse_reply, told_reading, blank_row, table_rows, read_rows, records_read, told};
 
 use emdf_answers::BitReply;
 use emdf_format::{
-    EmdfPayloadBitTrace, EmdfPayloadConfig, Optional, PayloadRecord, PayloadRow, RecordsError,
+    EmdfPayloadBitTrace, EmdfPayloadConfig, PayloadRecord, PayloadRow, RecordsError,
 };
-use emdf_records_plan::RecordsAnswer;
-use openjoc_bit_reader::{
-    AlignStep, BitResult, BitStep, BitsResult, BitsStep, MoveResult, WindowStep,
-};
-use openjoc_bitio::{AlignAnswer, BitAnswer, BitCursor, BitOffset, BitsAnswer, WindowAnswer};
-use openjoc_emdf::ParseAnswer;
+use openjoc_bitio::{BitCursor, BitOffset};
+use openjoc_emdf::ParsedEmdf;
 
 // A call of a BitReader that stands at a position and has this end: 0 new, 1 bits_remaining, 2 read_bits, 3 read_bit,
 // 4 take_bits, any other byte_align.
@@ -45,6 +41,7 @@ pub extern "C" fn trial_reader(
     emdf_rows::put_reply(answer, reader_reply(call, bytes, cursor, argument))
 }
 
+#[tactic(auto, unfolding(crate::specs::Trials::reader_reply))]
 fn reader_reply(call: u32, bytes: &[u8], cursor: BitCursor, argument: usize) -> BitReply
     ensures { result ≡ reader_reply call bytes.now cursor argument }
 {
@@ -56,57 +53,21 @@ fn reader_reply(call: u32, bytes: &[u8], cursor: BitCursor, argument: usize) -> 
         }
         2 => {
             let width = (argument % 256) as u8;
-            bits_step_reply(reader_calls::read_bits(bytes, cursor, width))
+            let (value, left) = reader_calls::read_bits(bytes, cursor, width);
+            emdf_answers::bits_reply(left, value.map(|v| (v, left)))
         }
-        3 => bit_step_reply(reader_calls::read_bit(bytes, cursor)),
-        4 => window_step_reply(reader_calls::take_bits(bytes, cursor, argument)),
-        _ => align_step_reply(reader_calls::byte_align(bytes, cursor)),
-    }
-}
-
-// A step in the host's form: as the answer at a cursor by value, and with the cursor that the reader is left at.
-fn bits_step_reply(step: BitsStep) -> BitReply
-    ensures { result ≡ bits_reply step.cursor (bits_answer_of step.result step.cursor) }
-{
-    let cursor = step.cursor;
-    let result = step.result;
-    match result {
-        BitsResult::Ok(value) => emdf_answers::bits_reply(cursor, BitsAnswer::Value(value, cursor)),
-        BitsResult::Err(why) => emdf_answers::bits_reply(cursor, BitsAnswer::Refused(why)),
-    }
-}
-
-fn bit_step_reply(step: BitStep) -> BitReply
-    ensures { result ≡ bit_reply step.cursor (bit_answer_of step.result step.cursor) }
-{
-    let cursor = step.cursor;
-    let result = step.result;
-    match result {
-        BitResult::Ok(bit) => emdf_answers::bit_reply(cursor, BitAnswer::Bit(bit, cursor)),
-        BitResult::Err(why) => emdf_answers::bit_reply(cursor, BitAnswer::Refused(why)),
-    }
-}
-
-fn window_step_reply(step: WindowStep) -> BitReply
-    ensures { result ≡ window_reply step.cursor (window_answer_of step.result step.window step.cursor) }
-{
-    let cursor = step.cursor;
-    let window = step.window;
-    let result = step.result;
-    match result {
-        MoveResult::Ok => emdf_answers::window_reply(cursor, WindowAnswer::Window(window, cursor)),
-        MoveResult::Err(why) => emdf_answers::window_reply(cursor, WindowAnswer::Refused(why)),
-    }
-}
-
-fn align_step_reply(step: AlignStep) -> BitReply
-    ensures { result ≡ align_reply step.cursor (align_answer_of step.result step.cursor) }
-{
-    let cursor = step.cursor;
-    let result = step.result;
-    match result {
-        MoveResult::Ok => emdf_answers::align_reply(cursor, AlignAnswer::Aligned(cursor)),
-        MoveResult::Err(why) => emdf_answers::align_reply(cursor, AlignAnswer::Refused(why)),
+        3 => {
+            let (bit, left) = reader_calls::read_bit(bytes, cursor);
+            emdf_answers::bit_reply(left, bit.map(|b| (b, left)))
+        }
+        4 => {
+            let (window, left) = reader_calls::take_bits(bytes, cursor, argument);
+            emdf_answers::window_reply(left, window.map(|w| (w, left)))
+        }
+        _ => {
+            let (moved, left) = reader_calls::byte_align(bytes, cursor);
+            emdf_answers::align_reply(left, moved.map(|()| left))
+        }
     }
 }
 
@@ -115,13 +76,8 @@ fn align_step_reply(step: AlignStep) -> BitReply
 pub extern "C" fn trial_parse(bytes: &[u8], answer: &mut [u8; 80]) -> u32
     ensures { Replies (parse_reply (parse_answer (reading bytes.now))) result answer.new }
 {
-    let a = openjoc_emdf::parse_emdf_sync(bytes);
-    match a {
-        ParseAnswer::Parsed(parsed) => {
-            emdf_rows::put_reading(answer, 0, emdf_answers::parsed_words(parsed))
-        }
-        ParseAnswer::Refused(why) => emdf_rows::put_refusal(answer, RecordsError::Emdf(why)),
-    }
+    let read = openjoc_emdf::parse_emdf_sync(bytes);
+    put_read(answer, read.map_err(RecordsError::Emdf))
 }
 
 // parse_emdf_sync_with_bit_trace, lent as many rows as the table has, at most 512. All of them are written to the table,
@@ -132,39 +88,40 @@ pub extern "C" fn trial_trace(bytes: &[u8], table: &mut [u8], answer: &mut [u8; 
 {
     let rows = table_rows(table.len());
     let read = emdf_table::read_table(bytes, blank_row(), rows);
-    let lent = read.table;
-    put_table(table, lent, rows);
-    let a = read.answer;
-    match a {
-        RecordsAnswer::Parsed(parsed) => {
-            emdf_rows::put_reading(answer, 0, emdf_answers::parsed_words(parsed))
-        }
-        RecordsAnswer::Refused(why) => emdf_rows::put_refusal(answer, why),
+    put_table(table, &read.table[..rows]);
+    put_read(answer, read.answer)
+}
+
+// A reading's answer in the host's form.
+#[tactic(auto, unfolding(crate::specs::Trials::told_reading, emdf_answers::specs::Carriers::read_reply))]
+fn put_read(answer: &mut [u8; 80], read: Result<ParsedEmdf, RecordsError>) -> u32
+    ensures { Replies (told_reading read) result answer.new }
+{
+    match read {
+        Ok(parsed) => emdf_rows::put_reading(answer, 0, emdf_answers::parsed_words(parsed)),
+        Err(why) => emdf_rows::put_refusal(answer, why),
     }
 }
 
+#[tactic(auto, unfolding(crate::specs::Trials::table_rows))]
 fn table_rows(bytes: usize) -> usize
     ensures { (result ≡ table_rows bytes) × (result ≤ 512) × (result * 224 ≤ bytes) }
 {
-    let rows = bytes / emdf_rows::ROW_BYTES;
-    if 512 < rows {
-        return 512;
-    }
-    rows
+    (bytes / emdf_rows::ROW_BYTES).min(512)
 }
 
 // No payload has it: each number is the largest.
 fn blank_row() -> PayloadRow
     ensures { result ≡ blank_row }
 {
-    let most = Optional::Present(0xffff_ffff_ffff_ffff);
-    let bit = BitOffset(0xffff_ffff_ffff_ffff);
+    let most = Some(u64::MAX);
+    let bit = BitOffset(usize::MAX);
     let config = EmdfPayloadConfig {
         sample_offset: most,
         duration: most,
         group_id: most,
-        codec_data_present: 0xffff_ffff_ffff_ffff,
-        discard_unknown_payload: 0xffff_ffff_ffff_ffff,
+        codec_data_present: u64::MAX,
+        discard_unknown_payload: u64::MAX,
         payload_frame_aligned: most,
         create_duplicate: most,
         remove_duplicate: most,
@@ -182,25 +139,27 @@ fn blank_row() -> PayloadRow
         payload_body_end_bit: bit,
     };
     let payload = PayloadRecord {
-        id: 0xffff_ffff_ffff_ffff,
+        id: u64::MAX,
         config,
         trace,
     };
     PayloadRow {
         payload,
-        ordinal: 0xffff_ffff_ffff_ffff,
+        ordinal: u64::MAX,
     }
 }
 
-fn put_table(table: &mut [u8], lent: [PayloadRow; 512], rows: usize)
-    requires { (rows ≤ 512) × (rows * 224 ≤ length table.old) }
-    ensures { table.new ≡ sets table.old 0 (rows_bytes (take rows lent)) }
+fn put_table(table: &mut [u8], rows: &[PayloadRow])
+    requires { length rows.now * 224 ≤ length table.old }
+    ensures { table.new ≡ sets table.old 0 (rows_bytes rows.now) }
 {
-    let mut i: usize = 0;
-    while i < rows {
-        let row = lent[i];
-        emdf_rows::put_row(table, i * emdf_rows::ROW_BYTES, row.payload, row.ordinal);
-        i += 1;
+    for (place, row) in rows.iter().enumerate() {
+        emdf_rows::put_row(
+            table,
+            place * emdf_rows::ROW_BYTES,
+            row.payload,
+            row.ordinal,
+        );
     }
 }
 
@@ -222,14 +181,8 @@ pub extern "C" fn trial_choose_body<'a>(
 fn put_bytes(out: &mut [u8], bytes: &[u8])
     ensures { out.new ≡ sets out.old 0 (take (length out.old) bytes.now) }
 {
-    let mut i: usize = 0;
-    while i < bytes.len() {
-        if out.len() <= i {
-            return;
-        }
-        out[i] = bytes[i];
-        i += 1;
-    }
+    let n = out.len().min(bytes.len());
+    out[..n].copy_from_slice(&bytes[..n]);
 }
 
 // validate_joc_profile, with the answer of emdf_verdict.
@@ -238,9 +191,8 @@ pub extern "C" fn trial_verdict(bytes: &[u8], answer: &mut [u8; 40]) -> u32
     ensures { Replies (verdict_reply (verdict EtsiStrict bytes.now)) result answer.new }
 {
     let judged = joc_profile::validate_joc_profile(bytes);
-    let values = emdf_answers::verdict_words(judged);
-    emdf_rows::put_words(answer, 0, &values);
-    emdf_answers::verdict_number(judged)
+    let number = emdf_answers::verdict_number(judged);
+    emdf_rows::put_answer(answer, number, &emdf_answers::verdict_words(judged))
 }
 
 // copy_bits: 1 where the run was put, else 0.
@@ -268,8 +220,5 @@ pub extern "C" fn trial_put(out: &mut [u8], at: usize, width: usize, value: u64)
 fn tell(fits: bool) -> u32
     ensures { result ≡ told fits }
 {
-    if fits {
-        return 1;
-    }
-    0
+    u32::from(fits)
 }

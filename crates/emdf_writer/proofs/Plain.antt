@@ -36,7 +36,7 @@ set-bytes (x ∷ l) (suc i) y h f (suc k) = set-bytes l i y h (λ j. f (suc j)) 
 
 put-bytes : (out : List ℕ) (at b : ℕ) → b < 2 → Bytes out → Bytes (bit_put out at b)
 unfolding bit_put
-put-bytes out at b k f = set-bytes out (at / 8) _ (with_code (get_or out (at / 8) 0) 1 (7 - at % 8) b _ _ refl refl (f (at / 8)) (omega arith) k).all f
+put-bytes out at b k f = set-bytes out (at / 8) _ (with_code (get_or out (at / 8) 0) 1 (7 - at % 8) b (f (at / 8)) (omega arith) k).all f
 
 -- ---- all of them
 

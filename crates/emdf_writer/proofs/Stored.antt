@@ -2,12 +2,13 @@
 use mathlib.Core.Path.{◌≡◌, refl, sym, ap, ◌∙◌}
 use mathlib.Core.List.{List, [], ◌∷◌, ◌++◌}
 use Prim.Native.Nat.{ℕ, zero, suc, ◌+◌, ◌-◌, ◌*◌, ◌/◌, ◌%◌, ◌^◌, ◌<◌, ◌≤◌}
-use native.Mathlib.Nat.{add-zero, zero-add, suc-add, mod-lt}
+use native.Mathlib.Nat.{add-zero, zero-add, suc-add, mod-lt, mod-eq_of_lt}
 use native.Mathlib.Omega.{arith}
 use lib.ListN.{length, get_or, set, length-set, length-append}
 use lib.Pow.{pow_pos, pow-add, pow_mono, shr_lt, shr-shr, high}
 use lib.Arith.{digits_lt}
 use lib.Seq.{sets, set-append_left}
+use Rattle.std.proofs.lemmas.Nat.{one_shl}
 use Rattle.openjoc_bitio.specs.Bits.{number_bits}
 use Rattle.openjoc_bitio.proofs.Bits.{length-number, number-high, number-low}
 use Rattle.emdf_format.specs.Syntax.{◌⨟◌, octet_bits}
@@ -93,14 +94,13 @@ pub part-stored : (l : List ℕ) (i a t e v : ℕ) → i < length l → a + t + 
     → octet_bits (set l i (byte_with (get_or l i 0) t e v)) ≡ sets (octet_bits l) (i * 8 + a) (number_bits t v)
 part-stored l i a t e v h k m = byte-stored l i a _ (number_bits t v) h (omega (arith, length-number t v)) (with-bits _ a t e v k m)
 
--- byte_with as the code makes it, and that no step of it is too large
-pub record WithCode (b t e v m k : ℕ) : Type 0 where
-  pub is : (b / 2 ^ (t + e) * m + v) * k + b % k ≡ byte_with b t e v
-  pub all : (b / 2 ^ (t + e) * m + v) * k + b % k < 256
-  pub above : b / 2 ^ (t + e) * m + v < 256
+-- byte_with as the code makes it, and that it is a byte
+pub record WithCode (b t e v : ℕ) : Type 0 where
+  pub is : (b / 2 ^ (t + e) * 2 ^ t % 2 ^ 64 + v) * 2 ^ e % 2 ^ 64 + b % (1 * 2 ^ e % 2 ^ 64) ≡ byte_with b t e v
+  pub all : byte_with b t e v < 256
 
-pub with_code : (b t e v m k : ℕ) → m ≡ 2 ^ t → k ≡ 2 ^ e → b < 256 → t + e ≤ 8 → v < 2 ^ t → WithCode b t e v m k
-with_code b t e v m k em ek hb h hv =
+pub with_code : (b t e v : ℕ) → b < 256 → t + e ≤ 8 → v < 2 ^ t → WithCode b t e v
+with_code b t e v hb h hv =
     let a = 8 - (t + e) in
     let s : a + (t + e) ≡ 8 = omega arith in
     let s' : a + t + e ≡ 8 = omega arith in
@@ -108,8 +108,10 @@ with_code b t e v m k em ek hb h hv =
     let y : b / 2 ^ (t + e) * 2 ^ t + v < 2 ^ (a + t) = rw (pow-add 2 a t) (digits_lt q hv) in
     let z : (b / 2 ^ (t + e) * 2 ^ t + v) * 2 ^ e + b % 2 ^ e < 2 ^ (a + t + e) = rw (pow-add 2 (a + t) e) (digits_lt y (mod-lt b (pow_pos e))) in
     let z' : (b / 2 ^ (t + e) * 2 ^ t + v) * 2 ^ e + b % 2 ^ e < 256 = (rw s' at z) in
-    let w : 2 ^ (a + t) ≤ 2 ^ 8 = pow_mono {j = 8} (omega arith) in
-    record { is = rw (em, ek); all = rw (em, ek) z'; above = rw em (omega arith) }
+    let l : 2 ^ (a + t) ≤ 2 ^ 8 = pow_mono {j = 8} (omega arith) in
+    let i : b / 2 ^ (t + e) * 2 ^ t < 2 ^ 64 = omega arith in
+    let j : (b / 2 ^ (t + e) * 2 ^ t + v) * 2 ^ e < 2 ^ 64 = omega arith in
+    record { is = rw (mod-eq_of_lt i, mod-eq_of_lt j, one_shl e 64 (omega arith)); all = z' }
 
 -- ---- the parts of a number
 

@@ -15,10 +15,7 @@ use openjoc_bitio::BitCursor;
 pub fn put_number(out: &mut [u8], at: usize, width: usize, v: u64) -> bool
     ensures { (result ≡ number_fits_in out.old at width) × (octet_bits out.new ≡ number_put out.old at width v) }
 {
-    if 64 < width {
-        return false;
-    }
-    if !has_bits(out, at, width) {
+    if 64 < width || !has_bits(out, at, width) {
         return false;
     }
     put_parts(out, at, width, v);
@@ -39,10 +36,7 @@ pub fn put_u16(out: &mut [u8], i: usize, v: u64)
 pub fn copy_bits(out: &mut [u8], at: usize, s: &[u8], from: usize, n: usize) -> bool
     ensures { (result ≡ run_fits_in out.old at s.now from n) × (out.new ≡ bit_by_bit out.old at s.now from n) }
 {
-    if !has_bits(s, from, n) {
-        return false;
-    }
-    if !has_bits(out, at, n) {
+    if !has_bits(s, from, n) || !has_bits(out, at, n) {
         return false;
     }
     copy_run(out, at, s, from, n);
@@ -54,10 +48,7 @@ fn has_bits(s: &[u8], at: usize, n: usize) -> bool
     ensures { result ≡ leb (at + n) (bit_length s.now) }
 {
     let limit = BitCursor::new(s).end;
-    if limit < at {
-        return false;
-    }
-    n <= limit - at
+    at <= limit && n <= limit - at
 }
 
 // The byte b with the t bits of v in place of those above its low ones.
@@ -65,11 +56,9 @@ fn byte_with(b: u8, t: usize, below: usize, v: u64) -> u8
     requires { (t + below ≤ 8) × (v < 2 ^ t) }
     ensures { result ≡ byte_with b t below v }
 {
-    let x = b as u64;
-    let m = openjoc_bitio::pow2(t);
-    let k = openjoc_bitio::pow2(below);
-    let y = ((x >> (t + below)) * m + v) * k + x % k;
-    (y % 256) as u8
+    let x = u64::from(b);
+    let above = ((x >> (t + below)) << t) + v;
+    ((above << below) + x % (1 << below)) as u8
 }
 
 // The t bits of v from bit at on, which lie in one byte.
@@ -90,29 +79,11 @@ fn put_parts(out: &mut [u8], at: usize, width: usize, v: u64)
     let mut n = width;
     let mut p = at;
     while 0 < n {
-        let t = openjoc_bitio::least(n, 8 - p % 8);
+        let t = n.min(8 - p % 8);
         n -= t;
-        put_part(out, p, t, (v >> n) % openjoc_bitio::pow2(t));
+        put_part(out, p, t, (v >> n) % (1 << t));
         p += t;
     }
-}
-
-// The byte at i: 0 past the end.
-fn byte_at(s: &[u8], i: usize) -> u8
-    ensures { result ≡ get_or s.now i 0 }
-{
-    if s.len() <= i {
-        return 0;
-    }
-    s[i]
-}
-
-// The octet from bit p on, with zeros past the end.
-fn octet_at(s: &[u8], p: usize) -> u8
-    ensures { result ≡ bits_value s.now p 8 }
-{
-    let i = p / 8;
-    openjoc_bitio::octet_in(byte_at(s, i), byte_at(s, i + 1), p % 8)
 }
 
 // The t bits of s from bit from on, to out from bit at on, where they lie in one byte.
@@ -123,20 +94,7 @@ fn copy_part(out: &mut [u8], at: usize, s: &[u8], from: usize, t: usize)
     if t == 0 {
         return;
     }
-    let octet = octet_at(s, from);
-    put_part(out, at, t, (octet as u64) >> (8 - t));
-}
-
-// n bytes of s from byte j on, to out from byte i on.
-fn copy_bytes(out: &mut [u8], i: usize, s: &[u8], j: usize, n: usize)
-    requires { (i + n ≤ length out.old) × (j + n ≤ length s.now) }
-    ensures { octet_bits out.new ≡ sets (octet_bits out.old) (i * 8) (bit_run s.now (j * 8) (n * 8)) }
-{
-    let mut moved: usize = 0;
-    while moved < n {
-        out[i + moved] = s[j + moved];
-        moved += 1;
-    }
+    put_part(out, at, t, openjoc_bitio::window_at(s, from) >> (64 - t));
 }
 
 // n octets of s from phase bits into its byte j on, to out from byte i on.
@@ -144,11 +102,8 @@ fn copy_shifted(out: &mut [u8], i: usize, s: &[u8], j: usize, phase: usize, n: u
     requires { (phase < 8) × (i + n ≤ length out.old) × (j + n < length s.now) }
     ensures { octet_bits out.new ≡ sets (octet_bits out.old) (i * 8) (bit_run s.now (j * 8 + phase) (n * 8)) }
 {
-    let mut k: usize = 0;
-    while k < n {
-        let octet = openjoc_bitio::octet_in(s[j + k], s[j + k + 1], phase);
-        out[i + k] = octet;
-        k += 1;
+    for k in 0..n {
+        out[i + k] = openjoc_bitio::octet_in(s[j + k], s[j + k + 1], phase);
     }
 }
 
@@ -160,7 +115,7 @@ pub fn copy_octets(out: &mut [u8], i: usize, s: &[u8], from: usize, n: usize)
     let j = from / 8;
     let phase = from % 8;
     if phase == 0 {
-        copy_bytes(out, i, s, j, n);
+        out[i..i + n].copy_from_slice(&s[j..j + n]);
         return;
     }
     copy_shifted(out, i, s, j, phase, n);
@@ -171,7 +126,7 @@ fn copy_run(out: &mut [u8], at: usize, s: &[u8], from: usize, n: usize)
     requires { (at + n ≤ length out.old * 8) × (from + n ≤ length s.now * 8) × (at + n < 2 ^ 64) × (from + n < 2 ^ 64) }
     ensures { octet_bits out.new ≡ sets (octet_bits out.old) at (bit_run s.now from n) }
 {
-    let head = openjoc_bitio::least(n, (8 - at % 8) % 8);
+    let head = n.min((8 - at % 8) % 8);
     copy_part(out, at, s, from, head);
     let m = (n - head) / 8;
     let i = (at + head) / 8;

@@ -8,9 +8,10 @@ use native.Mathlib.Omega.{arith}
 use lib.ListN.{length}
 use lib.Dec.{leb, eqb}
 use borrow.Author.Tests.{le-leb, lt-leb, eq-eqb, ne_eqb, eqb-false}
-use Rattle.std.specs.Prelude.{if◌then◌else◌}
+use Rattle.std.specs.Prelude.{if◌then◌else◌, Result, Ok, Err}
 use Rattle.openjoc_bitio.specs.declared.BitCursor.{BitCursor}
 use Rattle.openjoc_bitio.specs.Bits.{bits_value}
+use Rattle.openjoc_bitio.proofs.Results.{both-same}
 use Rattle.emdf_format.specs.Contents.{◌&◌}
 use Rattle.emdf_format.specs.Reading.{Container, Reading, accepted, refusal, reading}
 use Rattle.emdf_format.specs.Refusals.{refusal_of, figures_of}
@@ -19,8 +20,6 @@ use Rattle.emdf_format.specs.declared.EmdfError.{EmdfError}
 use Rattle.openjoc_emdf.specs.Answers.{parsed_emdf, parse_answer, first_payload, open_answer, class_answer}
 use Rattle.emdf_container.specs.Container.{container_of}
 use Rattle.openjoc_emdf.specs.declared.ParsedEmdf.{ParsedEmdf}
-use Rattle.openjoc_emdf.specs.declared.OpenAnswer.{OpenAnswer}
-use Rattle.openjoc_emdf.specs.declared.ParseAnswer.{ParseAnswer}
 use Rattle.openjoc_emdf.proofs.Header.{too_short, no-sync}
 use Rattle.emdf_text.specs.Lines.{ascii, line}
 use Rattle.emdfcheck.specs.Output.{record_lines, parsed_lines, class_lines, output}
@@ -48,7 +47,7 @@ module _ (s : List ℕ) {why : EmdfError} (h : reading s ≡ refusal why) where
 -- ---- accepted: a carrier, and what follows it
 
 module _ (s : List ℕ) (n : ℕ) (c : Container) (h : reading s ≡ accepted n c) where
-  never : {why : EmdfError} → ParseAnswer.Refused why ≡ parse_answer (reading s) → ⊥
+  never : {why : EmdfError} → Err why ≡ parse_answer (reading s) → ⊥
   unfolding parse_answer
   never e = let z : ◌≡◌ {A = ℕ} 0 1 = cc (rw h at e) in omega arith
 
@@ -72,15 +71,14 @@ record Opens (s : List ℕ) (x : Reading) (p : ParsedEmdf) (first : BitCursor) :
   pub parsed : parsed_emdf p.bytes_consumed.0 container ≡ p
   pub start : first ≡ first_payload p.bytes_consumed.0 s
 
-opens : (s : List ℕ) (x : Reading) {p : ParsedEmdf} {first : BitCursor} → open_answer s x ≡ OpenAnswer.Open p first → Opens s x p first
+opens : (s : List ℕ) (x : Reading) {p : ParsedEmdf} {first : BitCursor} → open_answer s x ≡ Ok (p, first) → Opens s x p first
 unfolding open_answer
 opens s (accepted n c) {p} {first} h =
-    let a : parsed_emdf n c ≡ p = cc in
-    let b : first ≡ first_payload n s = cc in
-    record { container = c; is = rw (← a); parsed = rw (← a); start = rw (← a) b }
+    let e = both-same h in
+    record { container = c; is = rw (← e.0); parsed = rw (← e.0); start = rw (← e.0) (sym e.1) }
 opens s (refusal why) h = absurd (let z : ◌≡◌ {A = ℕ} 0 1 = cc in omega arith)
 
-module _ (s : List ℕ) (p : ParsedEmdf) (first : BitCursor) (h : open_answer s (reading s) ≡ OpenAnswer.Open p first) where
+module _ (s : List ℕ) (p : ParsedEmdf) (first : BitCursor) (h : open_answer s (reading s) ≡ Ok (p, first)) where
   abbrev n : ℕ
   n = p.bytes_consumed.0
 
@@ -126,10 +124,10 @@ module _ (s : List ℕ) where
   unfolding output
   in-limit h = simp (le-leb (length s) 65536 h)
 
-  pub read-refused : {a : OpenAnswer} {why : EmdfError} → a ≡ open_answer s (reading s) → a ≡ OpenAnswer.Refused why → reading s ≡ refusal why
+  pub read-refused : {a : Result (ParsedEmdf × BitCursor) EmdfError} {why : EmdfError} → a ≡ open_answer s (reading s) → a ≡ Err why → reading s ≡ refusal why
   unfolding open_answer
   read-refused {a} {why} h e = go (reading s) (sym h ∙ e)
     where
-      go : (x : Reading) → open_answer s x ≡ OpenAnswer.Refused why → x ≡ refusal why
+      go : (x : Reading) → open_answer s x ≡ Err why → x ≡ refusal why
       go (accepted n c) h = absurd (let z : ◌≡◌ {A = ℕ} 0 1 = cc in omega arith)
       go (refusal w) h = let z : w ≡ why = cc in rw z

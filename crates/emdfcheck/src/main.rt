@@ -7,16 +7,15 @@ ghost use Rattle.emdf_format.specs.Reading.{reading, refusal};
 ghost use Rattle.emdf_format.specs.Refusals.{refusal_of, figures_of};
 ghost use Rattle.emdf_format.specs.Calls.{classify};
 ghost use Rattle.openjoc_emdf.specs.Answers.{open_answer};
-ghost use Rattle.openjoc_emdf.specs.declared.OpenAnswer.TheVariants as OpenAnswer;
 ghost use Rattle.emdfcheck.specs.Output.{record_line, record_lines, class_lines, output};
 ghost use Rattle.emdf_text.specs.Counts.{IsPrefixLen};
 ghost use Rattle.emdf_text.specs.Lines.{Printed};
 ghost use Rattle.emdfcheck.specs.Parts.{is_non_emdf, records_in, Printable};
 
 use emdf_format::{EmdfError, PayloadRecord};
-use emdf_payloads::PayloadStep;
+use emdf_refusals::Numbered;
 use openjoc_bitio::BitCursor;
-use openjoc_emdf::{CarrierClassification, OpenAnswer, ParsedEmdf};
+use openjoc_emdf::{CarrierClassification, ParsedEmdf};
 use std::env::FillError;
 use std::rt::Env;
 
@@ -30,7 +29,7 @@ fn main(rt: HostRuntime) {
     // The name of a file must not pass for the file.
     if has_argument(&rt) {
         // Where standard error takes no line, nothing is left to do.
-        let _ = rt.eprintln("usage: emdfcheck <FILE");
+        let _ = eprintln!(rt; "usage: emdfcheck <FILE");
         return;
     }
     let mut input = input_space();
@@ -42,11 +41,7 @@ fn main(rt: HostRuntime) {
 
 // The argument after the program's name, of which no byte is read: an empty one counts too.
 fn has_argument(env: &impl Env) -> bool {
-    match env.arg(1, &mut []) {
-        Ok(_) => true,
-        Err(FillError::TooLong) => true,
-        Err(FillError::NotPresent) => false,
-    }
+    !matches!(env.arg(1, &mut []), Err(FillError::NotPresent))
 }
 
 fn print_output(rt: &(impl Print + Eprint), bytes: &[u8]) {
@@ -80,10 +75,9 @@ fn put_output(bytes: &[u8], out: &mut [u8]) -> usize
     if MOST_BYTES < bytes.len() {
         return emdf_text::put_line(out, 0, b"toolong", &[]);
     }
-    let a = openjoc_emdf::open_carrier(bytes);
-    match a {
-        OpenAnswer::Open(parsed, first) => put_opened(bytes, parsed, first, out),
-        OpenAnswer::Refused(why) => put_refused(bytes, why, out),
+    match openjoc_emdf::open_carrier(bytes) {
+        Ok((parsed, first)) => put_opened(bytes, parsed, first, out),
+        Err(why) => put_refused(bytes, why, out),
     }
 }
 
@@ -101,20 +95,12 @@ fn put_refused(bytes: &[u8], why: EmdfError, out: &mut [u8]) -> usize
 fn is_non_emdf(class: CarrierClassification) -> bool
     ensures { result ≡ is_non_emdf class }
 {
-    match class {
-        CarrierClassification::NonEmdf => true,
-        CarrierClassification::Parsed(_) => false,
-        CarrierClassification::TrailingData {
-            container_bytes: _,
-            carrier_bytes: _,
-        } => false,
-        CarrierClassification::Malformed(_) => false,
-    }
+    matches!(class, CarrierClassification::NonEmdf)
 }
 
 // A carrier that is read, and what follows it.
 fn put_opened(bytes: &[u8], parsed: ParsedEmdf, first: BitCursor, out: &mut [u8]) -> usize
-    requires { (open_answer bytes.now (reading bytes.now) ≡ OpenAnswer.Open parsed first) × (65536 ≤ length out.old) }
+    requires { (open_answer bytes.now (reading bytes.now) ≡ Ok (parsed, first)) × (65536 ≤ length out.old) }
     ensures { Printed out.old 0 (class_lines (classify bytes.now)) out.new result }
 {
     let n = parsed.bytes_consumed.0;
@@ -138,18 +124,12 @@ fn put_records(bytes: &[u8], first: BitCursor, out: &mut [u8], start: usize) -> 
 {
     let mut at = first;
     let mut end = start;
-    loop {
-        let step = emdf_payloads::next_payload(bytes, at);
-        match step {
-            PayloadStep::Payload(payload, next) => {
-                end = put_record(out, end, payload);
-                at = next;
-            }
-            PayloadStep::End(_) => return end,
-            // Never: the carrier is read.
-            PayloadStep::Refused(_) => return end,
-        }
+    // The end mark ends it. No refusal does: the carrier is read.
+    while let Ok((Some(payload), next)) = emdf_payloads::next_payload(bytes, at) {
+        end = put_record(out, end, payload);
+        at = next;
     }
+    end
 }
 
 // A payload's id, and where its parts start and its body ends: six numbers of at most 20 digits.
@@ -173,5 +153,5 @@ fn put_record(out: &mut [u8], at: usize, payload: PayloadRecord) -> usize
 fn error_number(why: EmdfError) -> u64
     ensures { result ≡ (figures_of (refusal_of why)).number }
 {
-    emdf_refusals::figures_of(emdf_refusals::refusal_of(why)).number as u64
+    u64::from(why.figures().number)
 }

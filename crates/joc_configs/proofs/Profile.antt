@@ -1,97 +1,138 @@
 -- Laws of the verdict: values that differ, settings that pass, marks in a word. Assumes nothing.
 use mathlib.Core.Path.{◌≡◌, refl, sym, ap, ◌∙◌}
 use mathlib.Core.Bool.{Bool, true, false, not}
-use mathlib.Core.List.{List, [], ◌∷◌, ◌++◌}
-use Prim.Native.Nat.{ℕ, ◌+◌, ◌*◌, ◌/◌, ◌%◌, ◌<◌}
+use mathlib.Core.List.{List, [], ◌∷◌, ◌++◌, map}
+use Prim.Native.Nat.{ℕ, suc, ◌+◌, ◌*◌, ◌/◌, ◌%◌, ◌^◌, ◌≤◌, ◌<◌}
+use native.Mathlib.Nat.{pow-suc}
 use native.Mathlib.Omega.{arith}
 use lib.Count.{ones_step}
 use lib.Count.{ones as ones_in}
-use lib.Dec.{eqb, lit<, eqb→eq}
-use lib.ListN.{take, drop}
-use Rattle.std.specs.Prelude.{if◌then◌else◌}
+use lib.Dec.{eqb, lit<}
+use lib.ListN.{length, get_or, take}
+use lib.Seq.{length-take-le}
+use Rattle.std.proofs.Math.Pow.{pow_mono}
+use Rattle.std.specs.Prelude.{◌||◌, ◌&&◌, if◌then◌else◌, Option, Some, None, Ok, Err}
+use Rattle.std.specs.Option.{option_eq, is_some}
+use Rattle.std.specs.List.{list_all}
+use Rattle.std.proofs.lemmas.List.{take_more, take_all, map-append, length-map}
 use Rattle.emdf_format.specs.Contents.{◌&◌, is_present}
-use Rattle.emdf_format.specs.Profile.{meets, differ, Entry, table56, deviations, passes, all_pass, meets_profile, word, ones, status, judge}
-use Rattle.emdf_format.specs.declared.Optional.{Optional}
-use Rattle.emdf_format.specs.declared.Optional.TheVariants.{Absent, Present}
-use Rattle.emdf_format.specs.declared.EmdfPayloadConfig.{EmdfPayloadConfig}
+use Rattle.emdf_format.specs.Profile.{meets, differ, Entry, deviates, marks, deviations, allows, passes, all_pass, meets_profile, word, ones, status, judge}
 use Rattle.emdf_format.specs.declared.PlacedConfig.{PlacedConfig}
 use Rattle.emdf_format.specs.declared.JocValidationProfile.{JocValidationProfile}
 use Rattle.emdf_format.specs.declared.JocValidationStatus.{JocValidationStatus}
 use Rattle.emdf_format.specs.declared.JocProfileError.TheVariants.{Configuration}
-use Rattle.emdf_format.specs.declared.JocProfileAnswer.TheVariants.{Accepted, Refused}
-use Rattle.emdf_format.specs.declared.AllowedDeviation.{AllowedDeviation}
-use Rattle.emdf_format.specs.declared.JocRole.{JocRole}
-use Rattle.emdf_format.specs.declared.JocRole.TheVariants.{Oamd}
 use Rattle.emdf_format.specs.declared.JocProfileValue.{JocProfileValue}
-use Rattle.emdf_format.specs.declared.JocProfileValue.TheVariants.{Unsigned}
-use Rattle.joc_configs.specs.Settings.{passes_as}
+use Rattle.joc_configs.specs.Settings.{setting_of, passes_as}
+use Rattle.joc_configs.specs.declared.Setting.{Setting}
 use Rattle.emdf_format.proofs.Standing.{fails, holds}
 
--- ---- values that differ
+-- ---- values, compared by the language
 
-pub absent-differs : (b : Optional) → is_present b ≡ differ Absent b
-unfolding is_present differ
-absent-differs Absent = refl
-absent-differs (Present w) = refl
+pub equal-differ : (a b : Option ℕ) → not (option_eq eqb a b) ≡ differ a b
+unfolding differ
+equal-differ None None = refl
+equal-differ None (Some w) = refl
+equal-differ (Some v) None = refl
+equal-differ (Some v) (Some w) = refl
 
-eqb-sym : (a b : ℕ) → eqb a b ≡ eqb b a
-eqb-sym a b = go (eqb a b) (eqb b a) refl refl
+pub equal-meets : (v : ℕ) (o : Option ℕ) → option_eq eqb o (Some v) ≡ meets (JocProfileValue.Unsigned v) o
+unfolding meets
+equal-meets v None = refl
+equal-meets v (Some w) = refl
+
+not_twice : (b : Bool) → b ≡ not (not b)
+not_twice true = refl
+not_twice false = refl
+
+pub equal-allows : (a : Option (Option ℕ)) (o : Option ℕ) → option_eq (option_eq eqb) a (Some o) ≡ allows a o
+unfolding allows
+equal-allows None o = refl
+equal-allows (Some x) o = not_twice (option_eq eqb x o) ∙ ap not (equal-differ x o)
+
+is_some-present : (o : Option ℕ) → is_some o ≡ is_present o
+unfolding is_present
+is_some-present None = refl
+is_some-present (Some v) = refl
+
+pub is-absent : (o : Option ℕ) {r : Bool} → is_some o ≡ not r → r ≡ meets JocProfileValue.Absent o
+unfolding meets
+is-absent o {r} h = not_twice r ∙ ap not (sym h ∙ is_some-present o)
+
+pub is-present : (o : Option ℕ) {r : Bool} → r ≡ is_some o → r ≡ meets JocProfileValue.Present o
+unfolding meets
+is-present o h = h ∙ is_some-present o
+
+-- ---- settings that pass
+
+abbrev pub setting_passes : Setting → Bool
+setting_passes s = passes_as s.wanted s.allowed s.found
+
+pub all-settings : (xs : List Entry) → list_all setting_passes (map setting_of xs) ≡ all_pass xs
+unfolding all_pass passes passes_as ◌&◌
+all-settings [] = refl
+all-settings (x ∷ xs) = go (meets x.wanted x.found || allows x.allowed x.found) (all-settings xs)
   where
-    go : (x y : Bool) → eqb a b ≡ x → eqb b a ≡ y → eqb a b ≡ eqb b a
-    go true y h k = let e : a ≡ b = eqb→eq a b (rw h tt) in rw e
-    go false true h k = let e : b ≡ a = eqb→eq b a (rw k tt) in rw e
-    go false false h k = h ∙ sym k
-
-pub present-differs : (v : ℕ) (b : Optional) → not (meets (Unsigned v) b) ≡ differ (Present v) b
-unfolding meets differ
-present-differs v Absent = refl
-present-differs v (Present w) = ap not (eqb-sym w v)
-
--- ---- settings that pass, one after another
-
--- a deviation whose allowance was computed
-pub passes-by : {r : Bool} {a b : AllowedDeviation} (w : JocProfileValue) (o : Optional) → r ≡ passes_as w a o → a ≡ b → r ≡ passes_as w b o
-passes-by w o h e = rw e at h
-
-pub all_go : (x : Entry) (xs : List Entry) {r : Bool} → passes x ≡ true → r ≡ all_pass xs → r ≡ all_pass (x ∷ xs)
-unfolding all_pass ◌&◌
-all_go x xs h k = k ∙ rw h
-
-pub all-stop : (x : Entry) (xs : List Entry) → passes x ≡ false → false ≡ all_pass (x ∷ xs)
-unfolding all_pass ◌&◌
-all-stop x xs h = rw h
-
-pub all-last : (x : Entry) {r : Bool} → r ≡ passes x → r ≡ all_pass (x ∷ [])
-unfolding all_pass ◌&◌
-all-last x {r} h = h ∙ go (passes x)
-  where
-    go : (t : Bool) → t ≡ t & true
-    go true = refl
-    go false = refl
-
-all_split : (xs ys : List Entry) → all_pass (xs ++ ys) ≡ all_pass xs & all_pass ys
-unfolding all_pass ◌&◌
-all_split [] ys = refl
-all_split (x ∷ xs) ys = go (passes x) (all_split xs ys)
-  where
-    go : (t : Bool) → all_pass (xs ++ ys) ≡ all_pass xs & all_pass ys → t & all_pass (xs ++ ys) ≡ (t & all_pass xs) & all_pass ys
+    go : (t : Bool) → list_all setting_passes (map setting_of xs) ≡ all_pass xs → (t && list_all setting_passes (map setting_of xs)) ≡ (t & all_pass xs)
     go true h = h
     go false h = refl
 
--- the first five, which are the same of both payloads, and the others
-config-split : (role : JocRole) (t : EmdfPayloadConfig) → all_pass (table56 role t) ≡ all_pass (take 5 (table56 Oamd t)) & all_pass (drop 5 (table56 role t))
-unfolding table56
-config-split role t = all_split (take 5 (table56 role t)) (drop 5 (table56 role t))
-
-pub config-stop : (role : JocRole) (t : EmdfPayloadConfig) → all_pass (take 5 (table56 Oamd t)) ≡ false → false ≡ all_pass (table56 role t)
-unfolding ◌&◌
-config-stop role t h = sym (config-split role t ∙ rw h)
-
-pub config-go : (role : JocRole) (t : EmdfPayloadConfig) {r : Bool} → all_pass (take 5 (table56 Oamd t)) ≡ true → r ≡ all_pass (drop 5 (table56 role t)) → r ≡ all_pass (table56 role t)
-unfolding ◌&◌
-config-go role t h k = k ∙ sym (config-split role t ∙ rw h)
-
 -- ---- marks in a word
+
+-- the mark of a setting
+abbrev pub setting_deviates : Setting → Bool
+setting_deviates s = not (meets s.wanted s.found)
+
+pub setting-marks : (xs : List Entry) → map setting_deviates (map setting_of xs) ≡ marks xs
+unfolding marks deviates
+setting-marks [] = refl
+setting-marks (x ∷ xs) = ap (λ (bs : List Bool). not (meets x.wanted x.found) ∷ bs) (setting-marks xs)
+
+pub word_within : (bs : List Bool) → word bs < 2 ^ length bs
+unfolding word
+word_within [] = lit< tt
+word_within (b ∷ bs) = go b (word_within bs)
+  where
+    go : (b : Bool) → word bs < 2 ^ length bs → (if b then 1 else 0) + 2 * word bs < 2 ^ suc (length bs)
+    go true h = rw pow-suc (omega arith)
+    go false h = rw pow-suc (omega arith)
+
+-- one mark more
+word-more : (bs : List Bool) (b : Bool) → word (bs ++ b ∷ []) ≡ word bs + (if b then 2 ^ length bs else 0)
+unfolding word
+word-more [] true = refl
+word-more [] false = refl
+word-more (x ∷ bs) b = go b (word-more bs b)
+  where
+    go : (b : Bool) → word (bs ++ b ∷ []) ≡ word bs + (if b then 2 ^ length bs else 0)
+        → (if x then 1 else 0) + 2 * word (bs ++ b ∷ []) ≡ (if x then 1 else 0) + 2 * word bs + (if b then 2 ^ suc (length bs) else 0)
+    go true h = rw pow-suc (omega arith)
+    go false h = omega arith
+
+-- the marks of the first k settings
+abbrev pub marks_before : List Setting → ℕ → List Bool
+marks_before xs k = map setting_deviates (take k xs)
+
+module _ (xs : List Setting) (k : ℕ) where
+  length-before : k ≤ length xs → length (marks_before xs k) ≡ k
+  length-before h = length-map (take k xs) setting_deviates ∙ length-take-le k xs h
+
+  pub before-within : k ≤ length xs → word (marks_before xs k) < 2 ^ k
+  before-within h = rw (length-before h) at (word_within (marks_before xs k))
+
+  pub next-mark : (d : Setting) {m : Bool} {w : ℕ} → k < length xs → m ≡ meets (get_or xs k d).wanted (get_or xs k d).found
+      → w ≡ word (marks_before xs k) + (if not m then 2 ^ k else 0) → w ≡ word (marks_before xs (k + 1))
+  next-mark d h i e =
+      let l : length (marks_before xs k) ≡ k = length-before (omega arith) in
+      let t = word-more (marks_before xs k) (setting_deviates (get_or xs k d)) in
+      rw (take_more xs k d h, map-append) (rw i at e ∙ sym (rw l at t))
+
+-- the marks of a whole table
+pub all-marks : (xs : List Entry) (ss : List Setting) (k : ℕ) → ss ≡ map setting_of xs → length xs ≤ k → marks_before ss k ≡ marks xs
+all-marks xs ss k e h = rw (e, take_all k (map setting_of xs) (rw length-map h)) (setting-marks xs)
+
+-- a mark's weight
+pub weight : (k : ℕ) → k < 10 → ((1 * 2 ^ k) % 4294967296 ≡ 2 ^ k) × (2 ^ k ≤ 512)
+weight k h = let n : k ≤ 9 = omega arith in let l : 2 ^ k ≤ 2 ^ 9 = pow_mono n in (omega arith, omega arith)
 
 pub bit-small : (b : Bool) → (if b then 1 else 0) < 2
 bit-small true = lit< tt
@@ -113,11 +154,11 @@ ones-word (b ∷ bs) = mark-first (if b then 1 else 0) (word bs) (ones bs) (bit-
 -- ---- the verdict on two payloads
 
 module _ (profile : JocValidationProfile) (most : ℕ) (o j : PlacedConfig) {m : ℕ} {t : Bool} (is : m ≡ word (deviations o.config j.config)) (met : t ≡ meets_profile profile o.config j.config) where
-  pub judge-refused : not t ≡ true → Refused (Configuration m (ones_in m)) ≡ judge profile most o j
+  pub judge-refused : not t ≡ true → Err (Configuration m (ones_in m)) ≡ judge profile most o j
   unfolding judge
   judge-refused h = rw (fails h met, is, ones-word)
 
   pub judge-accepted : {st : JocValidationStatus} → not t ≡ false → st ≡ status (ones_in m)
-      → Accepted (record { oamd = o.place; joc = j.place; deviations = m; status = st; largest_groups = most }) ≡ judge profile most o j
+      → Ok (record { oamd = o.place; joc = j.place; deviations = m; status = st; largest_groups = most }) ≡ judge profile most o j
   unfolding judge
   judge-accepted {st} h k = rw (holds h met, k, is, ones-word)

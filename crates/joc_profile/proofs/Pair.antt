@@ -2,33 +2,30 @@
 use mathlib.Core.Path.{◌≡◌, refl, sym, ap, ◌∙◌}
 use mathlib.Core.Bool.{Bool, true, false}
 use mathlib.Core.List.{List, [], ◌∷◌}
-use mathlib.Core.Option.{Option, none, some}
 use Prim.Native.Nat.{ℕ, zero, suc, ◌+◌, ◌≤◌}
 use native.Mathlib.Omega.{arith}
 use lib.Dec.{eqb}
 use borrow.Author.Tests.{ne_eqb}
-use Rattle.std.specs.Prelude.{if◌then◌else◌}
+use Rattle.std.specs.Prelude.{if◌then◌else◌, Some, None, Result, Ok, Err, Option}
 use Rattle.openjoc_bitio.specs.declared.BitCursor.{BitCursor}
+use Rattle.openjoc_bitio.proofs.Results.{both-same, ok-is-not-err}
+use Rattle.emdf_format.specs.declared.ValidatedJocProfile.{ValidatedJocProfile}
+use Rattle.emdf_format.specs.declared.JocProfileError.{JocProfileError}
 use Rattle.emdf_format.specs.Reading.{Found, Container, accepted, reading, contents_of}
 use Rattle.emdf_format.specs.Groups.{largest_groups_of}
 use Rattle.emdf_format.specs.Profile.{count_id, first_id, only_id, judge, judged, verdict_on, verdict}
 use Rattle.emdf_format.specs.declared.JocValidationProfile.{JocValidationProfile}
 use Rattle.emdf_format.specs.declared.JocProfileError.TheVariants.{Emdf, PayloadCount}
-use Rattle.emdf_format.specs.declared.JocProfileAnswer.{JocProfileAnswer}
 use Rattle.emdf_format.specs.declared.EmdfError.{EmdfError}
 use Rattle.emdf_format.specs.declared.PayloadRecord.{PayloadRecord}
 use Rattle.emdf_format.specs.declared.PlacedConfig.{PlacedConfig}
-use Rattle.emdf_payloads.specs.declared.PayloadStep.TheVariants as PayloadStep
 use Rattle.emdf_container.specs.Container.{container_of}
 use Rattle.openjoc_emdf.specs.declared.ParsedEmdf.{ParsedEmdf}
 use Rattle.openjoc_emdf.specs.Answers.{parsed_emdf, open_answer}
-use Rattle.openjoc_emdf.specs.declared.OpenAnswer.{OpenAnswer}
 use Rattle.openjoc_emdf.proofs.Opening.{unopened}
 use Rattle.emdf_payloads.specs.Payloads.{Listed, step_at}
 use Rattle.emdf_payloads.proofs.Walk.{First, step-found, step-ended}
-use Rattle.joc_profile.specs.Pair.{count_of, seen_more, seen_next, seen_from, pair_of, placed_of, judged_pair, open_error}
-use Rattle.joc_profile.specs.declared.PairAnswer.{PairAnswer}
-use Rattle.joc_profile.specs.declared.PairAnswer.TheVariants.{Pair}
+use Rattle.joc_profile.specs.Pair.{count_of, seen_more, seen_next, seen_from, pair_of, placed_of, judged_pair}
 use Rattle.joc_profile.specs.declared.Seen.{Seen}
 use Rattle.joc_profile.specs.declared.Seen.TheVariants.{Nothing, One, Several}
 
@@ -81,10 +78,10 @@ seen_one p id k (x ∷ xs) = go (eqb x.record_of.id id) (seen-several 2 id (k + 
     go false a b = let e : count_id id xs ≡ 0 + count_id id xs = omega arith in b ∙ ap (one_of p) e
 
 pub record Agrees (seen : Seen) (n : ℕ) (first : Option PlacedConfig) : Type 0 where
-  pub place : placed_of seen ≡ (if eqb n 1 then first else none)
+  pub place : placed_of seen ≡ (if eqb n 1 then first else None)
   pub count : count_of seen ≡ n
 
-one-agrees : (p : PlacedConfig) (n : ℕ) → Agrees (one_of p n) (1 + n) (some p)
+one-agrees : (p : PlacedConfig) (n : ℕ) → Agrees (one_of p n) (1 + n) (Some p)
 unfolding one_of placed_of
 one-agrees p zero = record { place = refl; count = refl }
 one-agrees p (suc n) = record { place = rw (ne_eqb (1 + suc n) 1 (λ e. omega (arith, e))); count = omega arith }
@@ -99,7 +96,7 @@ seen-agrees id k (x ∷ xs) = go (eqb x.record_of.id id) (seen-agrees id (k + 1)
 
     go : (t : Bool) → Agrees (seen_from Nothing id (k + 1) xs) (count_id id xs) (first_id id (k + 1) xs)
         → Agrees (seen_from (if t then One (record { place = k; config = x.record_of.config }) else Nothing) id (k + 1) xs) ((if t then 1 else 0) + count_id id xs)
-        (if t then some (record { place = k; config = x.record_of.config }) else first_id id (suc k) xs)
+        (if t then Some (record { place = k; config = x.record_of.config }) else first_id id (suc k) xs)
     go true h = rw (seen_one _ id (k + 1) xs) (one-agrees _ (count_id id xs))
     go false h =
         let e : suc k ≡ k + 1 = omega arith in
@@ -108,34 +105,23 @@ seen-agrees id k (x ∷ xs) = go (eqb x.record_of.id id) (seen-agrees id (k + 1)
 
 -- ---- the verdict on what is seen
 
--- the match took another arm than One's
-abbrev NotOne : Seen → Type 0
-NotOne o = (p : PlacedConfig) → o ≡ One p → ⊥
-
 module _ (profile : JocValidationProfile) (most : ℕ) (o j : Seen) where
-  abbrev counts : JocProfileAnswer
-  counts = JocProfileAnswer.Refused (PayloadCount (count_of o) (count_of j))
-
   -- 14: one of them is missing or repeated
-  pub oamd-missing : {m n : ℕ} → NotOne o → m ≡ count_of o → n ≡ count_of j → JocProfileAnswer.Refused (PayloadCount m n) ≡ judged_pair profile most o j
+  pub not-both : {m n : ℕ} → ((p q : PlacedConfig) → o ≡ One p → j ≡ One q → ⊥) → m ≡ count_of o → n ≡ count_of j → Err (PayloadCount m n) ≡ judged_pair profile most o j
   unfolding judged_pair judged placed_of
-  oamd-missing f a b = rw (a, b) (go o f)
+  not-both f a b = rw (a, b) (go o j f)
     where
-      go : (x : Seen) → NotOne x → counts ≡ judged profile most (placed_of x) (placed_of j) counts
-      go Nothing f = refl
-      go (One p) f = absurd (f p refl)
-      go (Several k) f = refl
+      counts : Result ValidatedJocProfile JocProfileError
+      counts = Err (PayloadCount (count_of o) (count_of j))
 
-  pub joc-missing : {m n : ℕ} {p : PlacedConfig} → o ≡ One p → NotOne j → m ≡ count_of o → n ≡ count_of j → JocProfileAnswer.Refused (PayloadCount m n) ≡ judged_pair profile most o j
-  unfolding judged_pair judged placed_of
-  joc-missing {p = p} e f a b = rw (a, b) (go j f ∙ ap (λ (x : Seen). judged profile most (placed_of x) (placed_of j) counts) (sym e))
-    where
-      go : (x : Seen) → NotOne x → counts ≡ judged profile most (some p) (placed_of x) counts
-      go Nothing f = refl
-      go (One q) f = absurd (f q refl)
-      go (Several k) f = refl
+      go : (x y : Seen) → ((p q : PlacedConfig) → x ≡ One p → y ≡ One q → ⊥) → counts ≡ judged profile most (placed_of x) (placed_of y) counts
+      go Nothing y f = refl
+      go (Several k) y f = refl
+      go (One p) Nothing f = refl
+      go (One p) (Several k) f = refl
+      go (One p) (One q) f = absurd (f p q refl refl)
 
-  pub both-there : {r : JocProfileAnswer} {p q : PlacedConfig} → o ≡ One p → j ≡ One q → r ≡ judge profile most p q → r ≡ judged_pair profile most o j
+  pub both-there : {r : Result ValidatedJocProfile JocProfileError} {p q : PlacedConfig} → o ≡ One p → j ≡ One q → r ≡ judge profile most p q → r ≡ judged_pair profile most o j
   unfolding judged_pair judged placed_of
   both-there e f h = rw (e, f) h
 
@@ -147,22 +133,21 @@ unfolding container_of
 parsed-groups c h = rw (← h)
 
 -- the payloads of a carrier that is read are never refused
-pub never-refused : (xs : List Found) {a : PairAnswer} {why : EmdfError} → a ≡ pair_of xs → a ≡ PairAnswer.Refused why → ⊥
+pub never-refused : (xs : List Found) {a : Result (Seen × Seen) EmdfError} → a ≡ pair_of xs → (why : EmdfError) × (a ≡ Err why) → ⊥
 unfolding pair_of
-never-refused xs is h = let e = sym is ∙ h in let w : ◌≡◌ {A = ℕ} 0 1 = cc in omega arith
+never-refused xs is (why, h) = ok-is-not-err (sym is ∙ h)
 
 module _ (profile : JocValidationProfile) (s : List ℕ) where
-  pub refused-verdict : {a : OpenAnswer} {why x : EmdfError} → a ≡ open_answer s (reading s) → a ≡ OpenAnswer.Refused why → x ≡ open_error a x → JocProfileAnswer.Refused (Emdf x) ≡ verdict profile s
+  pub refused-verdict : {a : Result (ParsedEmdf × BitCursor) EmdfError} {r : Result ValidatedJocProfile JocProfileError} → a ≡ open_answer s (reading s)
+      → (why : EmdfError) × (a ≡ Err why) × (r ≡ Err (Emdf why)) → r ≡ verdict profile s
   unfolding verdict verdict_on
-  refused-verdict {a} {why} {x} i h k = let z : x ≡ why = rw h at k in rw (unopened s (sym i ∙ h), z)
+  refused-verdict i (why, h, e) = e ∙ rw (unopened s (sym i ∙ h))
 
-  module _ {n : ℕ} {c : Container} (read : reading s ≡ accepted n c) {a : PairAnswer} (is : a ≡ pair_of c.found) where
-    pub found-verdict : {most : ℕ} {o j : Seen} {r : JocProfileAnswer} → most ≡ largest_groups_of (contents_of c) → a ≡ Pair o j → r ≡ judged_pair profile most o j → r ≡ verdict profile s
+  module _ {n : ℕ} {c : Container} (read : reading s ≡ accepted n c) {a : Result (Seen × Seen) EmdfError} (is : a ≡ pair_of c.found) where
+    pub found-verdict : {most : ℕ} {o j : Seen} {r : Result ValidatedJocProfile JocProfileError} → most ≡ largest_groups_of (contents_of c) → a ≡ Ok (o, j) → r ≡ judged_pair profile most o j → r ≡ verdict profile s
     unfolding verdict verdict_on judged_pair only_id pair_of
     found-verdict {o = o} {j = j} m h k =
-        let e = sym is ∙ h in
-        let f : seen_from Nothing 11 0 c.found ≡ o = cc in
-        let g : seen_from Nothing 14 0 c.found ≡ j = cc in
+        let (f, g) = both-same (sym is ∙ h) in
         let u = seen-agrees 11 0 c.found in
         let v = seen-agrees 14 0 c.found in
         rw read (rw (m, ← f, ← g, u.place, u.count, v.place, v.count) at k)
@@ -184,12 +169,12 @@ unfolding seen_from
 seen_first b id k f = rw (f.is, ← f.record_is)
 
 pub same_next : {s : List ℕ} {at next : BitCursor} {o j o' j' : Seen} {place : ℕ} {xs : List Found} {r : PayloadRecord} → Same s at o j place xs
-    → step_at s at ≡ PayloadStep.Payload r next → o' ≡ seen_next o 11 place r → j' ≡ seen_next j 14 place r → Same s next o' j' (place + 1) xs
+    → step_at s at ≡ Ok (Some r, next) → o' ≡ seen_next o 11 place r → j' ≡ seen_next j 14 place r → Same s next o' j' (place + 1) xs
 same_next {s} {at} {o = o} {j = j} {place = place} m h a b =
     let f = step-found s at m.left m.listed h in
     record { left = f.others; listed = f.listed; first = rw a (seen_first o 11 place f) ∙ m.first; second = rw b (seen_first j 14 place f) ∙ m.second }
 
-pub same_end : {s : List ℕ} {at next : BitCursor} {o j : Seen} {place : ℕ} {xs : List Found} → Same s at o j place xs → step_at s at ≡ PayloadStep.End next → Pair o j ≡ pair_of xs
+pub same_end : {s : List ℕ} {at next : BitCursor} {o j : Seen} {place : ℕ} {xs : List Found} → Same s at o j place xs → step_at s at ≡ Ok (None, next) → Ok (o, j) ≡ pair_of xs
 unfolding pair_of seen_from
 same_end {s} {at} m h =
     let e = step-ended s at m.left m.listed h in

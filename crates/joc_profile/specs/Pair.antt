@@ -1,6 +1,7 @@
 -- The two payloads of table 55 as they are met one after another. Assumes nothing.
-use Rattle.std.specs.Prelude.{List, [], ◌∷◌, ℕ, ◌+◌, eqb, if◌then◌else◌}
-use Rattle.std.proofs.Math.Option.{Option, none, some}
+use Rattle.std.specs.Prelude.{List, [], ◌∷◌, ℕ, ◌+◌, eqb, if◌then◌else◌, Result, Ok, Err, Option, Some, None}
+use Rattle.emdf_format.specs.declared.ValidatedJocProfile.{ValidatedJocProfile}
+use Rattle.emdf_format.specs.declared.JocProfileError.{JocProfileError}
 use Rattle.emdf_format.specs.Reading.{Found}
 use Rattle.emdf_format.specs.Profile.{judged}
 use Rattle.emdf_format.specs.declared.EmdfError.{EmdfError}
@@ -8,12 +9,8 @@ use Rattle.emdf_format.specs.declared.PayloadRecord.{PayloadRecord}
 use Rattle.emdf_format.specs.declared.PlacedConfig.{PlacedConfig}
 use Rattle.emdf_format.specs.declared.JocValidationProfile.{JocValidationProfile}
 use Rattle.emdf_format.specs.declared.JocProfileError.TheVariants.{PayloadCount}
-use Rattle.emdf_format.specs.declared.JocProfileAnswer.{JocProfileAnswer}
-use Rattle.openjoc_emdf.specs.declared.OpenAnswer.{OpenAnswer}
 use Rattle.joc_profile.specs.declared.Seen.{Seen}
 use Rattle.joc_profile.specs.declared.Seen.TheVariants.{Nothing, One, Several}
-use Rattle.joc_profile.specs.declared.PairAnswer.{PairAnswer}
-use Rattle.joc_profile.specs.declared.PairAnswer.TheVariants.{Pair, Refused}
 
 -- ---- the payloads with an id, one after another
 
@@ -36,25 +33,15 @@ unfoldable pub seen_from : Seen → ℕ → ℕ → List Found → Seen
 seen_from before id k [] = before
 seen_from before id k (x ∷ xs) = seen_from (seen_next before id k x.record_of) id (k + 1) xs
 
-unfoldable pub pair_of : List Found → PairAnswer
-pair_of xs = Pair (seen_from Nothing 11 0 xs) (seen_from Nothing 14 0 xs)
+unfoldable pub pair_of : List Found → Result (Seen × Seen) EmdfError
+pair_of xs = Ok (seen_from Nothing 11 0 xs, seen_from Nothing 14 0 xs)
 
 -- ---- the verdict on them
 
 unfoldable pub placed_of : Seen → Option PlacedConfig
-placed_of Nothing = none
-placed_of (One x) = some x
-placed_of (Several n) = none
+placed_of Nothing = None
+placed_of (One x) = Some x
+placed_of (Several n) = None
 
-unfoldable pub judged_pair : JocValidationProfile → ℕ → Seen → Seen → JocProfileAnswer
-judged_pair profile most o j = judged profile most (placed_of o) (placed_of j) (JocProfileAnswer.Refused (PayloadCount (count_of o) (count_of j)))
-
--- ---- r is why an answer is refused; of an accepted one nothing is said
-
-abbrev pub open_error : OpenAnswer → EmdfError → EmdfError
-open_error (OpenAnswer.Open p c) r = r
-open_error (OpenAnswer.Refused why) r = why
-
-abbrev pub pair_error : PairAnswer → EmdfError → EmdfError
-pair_error (Pair o j) r = r
-pair_error (Refused why) r = why
+unfoldable pub judged_pair : JocValidationProfile → ℕ → Seen → Seen → Result ValidatedJocProfile JocProfileError
+judged_pair profile most o j = judged profile most (placed_of o) (placed_of j) (Err (PayloadCount (count_of o) (count_of j)))

@@ -2,138 +2,15 @@
 #![tactic(auto)]
 
 ghost use Rattle.std.specs.Prelude.{◌≡◌};
-ghost use Rattle.openjoc_bit_reader.specs.Reader.{bits_step, bit_step, window_step, align_step, opened, reader_at, reader_remaining, bits_read, bit_read, window_taken, window, aligned};
+ghost use Rattle.openjoc_bit_reader.specs.Reader.{opened, reader_remaining, result_of, reader_after, bits_read, bit_read, window_taken, aligned};
 
-use openjoc_bitio::{AlignAnswer, BitAnswer, BitCursor, BitError, BitsAnswer, WindowAnswer};
+use openjoc_bitio::{BitCursor, BitError};
 
-// The Rust's Result of each reading call, and of the two that only move.
-#[derive(Clone, Copy)]
-pub enum BitsResult {
-    Ok(u64),
-    Err(BitError),
-}
-
-#[derive(Clone, Copy)]
-pub enum BitResult {
-    Ok(bool),
-    Err(BitError),
-}
-
-#[derive(Clone, Copy)]
-pub enum MoveResult {
-    Ok,
-    Err(BitError),
-}
-
-// A result beside the cursor after the call, which a refusal leaves as it was: what a reader's method stores and returns.
-#[derive(Clone, Copy)]
-pub struct BitsStep {
-    pub result: BitsResult,
-    pub cursor: BitCursor,
-}
-
-#[derive(Clone, Copy)]
-pub struct BitStep {
-    pub result: BitResult,
-    pub cursor: BitCursor,
-}
-
-#[derive(Clone, Copy)]
-pub struct WindowStep {
-    pub result: MoveResult,
-    pub window: BitCursor,
-    pub cursor: BitCursor,
-}
-
-#[derive(Clone, Copy)]
-pub struct AlignStep {
-    pub result: MoveResult,
-    pub cursor: BitCursor,
-}
-
-fn bits_step(s: &[u8], c: BitCursor, n: u8) -> BitsStep
-    ensures { result ≡ bits_step s.now c n }
-{
-    let answer = c.read_bits(s, n);
-    match answer {
-        BitsAnswer::Value(value, next) => BitsStep {
-            result: BitsResult::Ok(value),
-            cursor: next,
-        },
-        BitsAnswer::Refused(why) => BitsStep {
-            result: BitsResult::Err(why),
-            cursor: c,
-        },
-    }
-}
-
-fn bit_step(s: &[u8], c: BitCursor) -> BitStep
-    ensures { result ≡ bit_step s.now c }
-{
-    let answer = c.read_bit(s);
-    match answer {
-        BitAnswer::Bit(bit, next) => BitStep {
-            result: BitResult::Ok(bit),
-            cursor: next,
-        },
-        BitAnswer::Refused(why) => BitStep {
-            result: BitResult::Err(why),
-            cursor: c,
-        },
-    }
-}
-
-// Where the window is refused, an empty one at the cursor.
-fn window_step(s: &[u8], c: BitCursor, count: usize) -> WindowStep
-    ensures { result ≡ window_step s.now c count }
-{
-    let answer = c.take_bits(s, count);
-    match answer {
-        WindowAnswer::Window(window, next) => WindowStep {
-            result: MoveResult::Ok,
-            window,
-            cursor: next,
-        },
-        WindowAnswer::Refused(why) => WindowStep {
-            result: MoveResult::Err(why),
-            window: BitCursor {
-                position: c.position,
-                end: c.position,
-            },
-            cursor: c,
-        },
-    }
-}
-
-fn align_step(s: &[u8], c: BitCursor) -> AlignStep
-    ensures { result ≡ align_step s.now c }
-{
-    let answer = c.byte_align(s);
-    match answer {
-        AlignAnswer::Aligned(next) => AlignStep {
-            result: MoveResult::Ok,
-            cursor: next,
-        },
-        AlignAnswer::Refused(why) => AlignStep {
-            result: MoveResult::Err(why),
-            cursor: c,
-        },
-    }
-}
-
-// A reader that holds the caller's bytes: the Rust's calls, each of one call at its cursor.
+// A reader over the caller's bytes: the Rust's calls, each one call at its cursor. A refused one leaves it as it was.
 #[derive(Clone, Copy)]
 pub struct BitReader<'a> {
     pub bytes: &'a [u8],
     pub cursor: BitCursor,
-}
-
-// What take_bits hands back. No enum holds a reference, so the reader stands beside the result: an empty one where the
-// window is refused.
-#[derive(Clone, Copy)]
-pub struct BitWindow<'a> {
-    pub reader: BitReader<'a>,
-    pub result: MoveResult,
 }
 
 impl<'a> BitReader<'a> {
@@ -150,42 +27,38 @@ impl<'a> BitReader<'a> {
         self.cursor.bits_remaining(self.bytes)
     }
 
-    pub fn read_bits(&mut self, n: u8) -> BitsResult
-        ensures { (result ≡ (bits_read self.old n).result) × (self.new ≡ reader_at self.old (bits_read self.old n).cursor) }
+    pub fn read_bits(&mut self, n: u8) -> Result<u64, BitError>
+        ensures { (result ≡ result_of (bits_read self.old n)) × (self.new ≡ reader_after self.old (bits_read self.old n)) }
     {
-        let step = bits_step(self.bytes, self.cursor, n);
-        self.cursor = step.cursor;
-        step.result
+        let (value, next) = self.cursor.read_bits(self.bytes, n)?;
+        self.cursor = next;
+        Ok(value)
     }
 
-    pub fn read_bit(&mut self) -> BitResult
-        ensures { (result ≡ (bit_read self.old).result) × (self.new ≡ reader_at self.old (bit_read self.old).cursor) }
+    pub fn read_bit(&mut self) -> Result<bool, BitError>
+        ensures { (result ≡ result_of (bit_read self.old)) × (self.new ≡ reader_after self.old (bit_read self.old)) }
     {
-        let step = bit_step(self.bytes, self.cursor);
-        self.cursor = step.cursor;
-        step.result
+        let (bit, next) = self.cursor.read_bit(self.bytes)?;
+        self.cursor = next;
+        Ok(bit)
     }
 
-    pub fn take_bits(&mut self, count: usize) -> BitWindow<'a>
-        ensures { (result ≡ window self.old count) × (self.new ≡ reader_at self.old (window_taken self.old count).cursor) }
+    // The next count bits as a reader of their own.
+    pub fn take_bits(&mut self, count: usize) -> Result<Self, BitError>
+        ensures { (result ≡ result_of (window_taken self.old count)) × (self.new ≡ reader_after self.old (window_taken self.old count)) }
     {
-        let bytes = self.bytes;
-        let step = window_step(bytes, self.cursor, count);
-        self.cursor = step.cursor;
-        BitWindow {
-            reader: BitReader {
-                bytes,
-                cursor: step.window,
-            },
-            result: step.result,
-        }
+        let (window, next) = self.cursor.take_bits(self.bytes, count)?;
+        self.cursor = next;
+        Ok(BitReader {
+            bytes: self.bytes,
+            cursor: window,
+        })
     }
 
-    pub fn byte_align(&mut self) -> MoveResult
-        ensures { (result ≡ (aligned self.old).result) × (self.new ≡ reader_at self.old (aligned self.old).cursor) }
+    pub fn byte_align(&mut self) -> Result<(), BitError>
+        ensures { (result ≡ result_of (aligned self.old)) × (self.new ≡ reader_after self.old (aligned self.old)) }
     {
-        let step = align_step(self.bytes, self.cursor);
-        self.cursor = step.cursor;
-        step.result
+        self.cursor = self.cursor.byte_align(self.bytes)?;
+        Ok(())
     }
 }

@@ -1,18 +1,16 @@
 -- Laws of bits and of the numbers that they make, for every crate that reads or writes them. Assumes nothing.
 use mathlib.Core.Path.{◌≡◌, refl, sym, ap, ◌∙◌}
-use mathlib.Core.Bool.{Bool, true, false}
-use mathlib.Core.List.{List, ◌++◌}
+use mathlib.Core.List.{List, [], ◌∷◌, ◌++◌}
 use Prim.Native.Nat.{ℕ, zero, suc, ◌+◌, ◌-◌, ◌*◌, ◌/◌, ◌%◌, ◌^◌, ◌<◌, ◌≤◌}
 use native.Mathlib.Nat.{pow-suc, add-zero, add-suc, add_assoc, add-mul, mul_assoc, mul_comm, mul-one, mod-one, mod-eq_of_lt, lt_of_lt_of_le, div-one, zero-div, zero-mul, mul-add-div_right, mul-add-mod_self_right}
 use native.Mathlib.Numerals.{add-one}
 use native.Mathlib.Omega.{arith}
 use lib.ListN.{length, get_or, take, drop, get_or-append, get_or-eq_default}
 use lib.Seq.{get_or-take, get_or-drop}
-use lib.Dec.{leb, lit<}
-use borrow.Author.Tests.{leb-true, leb-false}
+use lib.Dec.{lit<, lit≤}
 use lib.Pow.{mod-pow-add, shr-shr, shl-shr, shl_lt, high, low, pow_mono, pow-add, pow_pos}
 use lib.Pow.{split as pow-split}
-use Rattle.openjoc_bitio.specs.Bits.{bit_at, bits_value, window_at, swap_four, swap_octets, number_bits}
+use Rattle.openjoc_bitio.specs.Bits.{bit_at, bits_value, window_at, number_bits}
 
 pub bit-range : (s : List ℕ) (p : ℕ) → bit_at s p < 2
 unfolding bit_at
@@ -147,13 +145,19 @@ window-top s p n h =
     let parts : bits_value s p (64 - k) ≡ bits_value s p n * 2 ^ m + bits_value s (p + n) m = ap (bits_value s p) f ∙ value-split s p n m in
     rw (e, ← shr-shr, shl-shr, parts) (high (bits_value s p n) m (value-range s (p + n) m))
 
+-- w bits from two windows
+pub windows-joined : (s : List ℕ) (p w : ℕ) → 32 ≤ w → w ≤ 64 → window_at s p / 2 ^ 32 * 2 ^ (w - 32) % 2 ^ 64 + window_at s (p + 32) / 2 ^ (64 - (w - 32)) ≡ bits_value s p w
+windows-joined s p w h k =
+    let low = w - 32 in
+    let e : w ≡ 32 + low = omega arith in
+    let f : bits_value s p 32 * 2 ^ low < 2 ^ 64 = lt_of_lt_of_le (shl_lt 32 low (value-range s p 32)) (pow_mono {j = 64} (omega arith)) in
+    rw (window-top s p 32 (lit≤ tt), window-top s (p + 32) low (omega arith), mod-eq_of_lt f) (sym (ap (bits_value s p) e ∙ value-split s p 32 low))
+
 pub window-range : (s : List ℕ) (p : ℕ) → window_at s p < 2 ^ 64
 unfolding window_at
 window-range s p =
     let e : 64 - p % 8 + p % 8 ≡ 64 = omega arith in
     rw e at (shl_lt (64 - p % 8) (p % 8) (value-range s p (64 - p % 8)))
-
--- ---- octets in the opposite order
 
 -- what stands above t bits from bit j on of a sum does not reach them
 bits_below : (x l j t d : ℕ) → (x * 2 ^ (j + t + d) + l) / 2 ^ j % 2 ^ t ≡ l / 2 ^ j % 2 ^ t
@@ -161,81 +165,29 @@ bits_below x l j t d =
     let e : x * 2 ^ (j + t + d) ≡ x * 2 ^ d * 2 ^ t * 2 ^ j = rw (pow-add 2 (j + t) d, pow-add 2 j t, mul_comm (2 ^ j * 2 ^ t) (2 ^ d), mul_comm (2 ^ j) (2 ^ t), ← mul_assoc, ← mul_assoc) in
     rw (e, mul-add-div_right (pow_pos j)) (mul-add-mod_self_right (x * 2 ^ d) (2 ^ t) (l / 2 ^ j))
 
-pub swap-four-range : (v : ℕ) → swap_four v < 2 ^ 32
-unfolding swap_four
-swap-four-range v = omega arith
-
-pub swap-range : (v : ℕ) → swap_octets v < 2 ^ 64
-unfolding swap_octets
-swap-range v = omega (arith, swap-four-range v, swap-four-range (v / 2 ^ 32))
-
--- only the four low octets matter
-pub swap-four-low : (h l : ℕ) → swap_four (h * 2 ^ 32 + l) ≡ swap_four l
-unfolding swap_four
-swap-four-low h l =
-    let a : (h * 2 ^ 32 + l) % 2 ^ 8 ≡ l % 2 ^ 8 = omega arith in
-    rw (a, bits_below h l 8 8 16, bits_below h l 16 8 8, bits_below h l 24 8 0)
-
-pub swap-halves : (h l : ℕ) → l < 2 ^ 32 → swap_octets (h * 2 ^ 32 + l) ≡ swap_four l * 2 ^ 32 + swap_four h
-unfolding swap_octets
-swap-halves h l b = rw (high h 32 b, swap-four-low h l)
-
--- the four low octets of v, the most significant first
-abbrev Octets : (v a b c d : ℕ) → Type 0
-Octets v a b c d = (v / 2 ^ 24 % 2 ^ 8 ≡ a) × (v / 2 ^ 16 % 2 ^ 8 ≡ b) × (v / 2 ^ 8 % 2 ^ 8 ≡ c) × (v % 2 ^ 8 ≡ d)
-
-octets-of : (a b c d : ℕ) → a < 2 ^ 8 → b < 2 ^ 8 → c < 2 ^ 8 → d < 2 ^ 8 → Octets (a * 2 ^ 24 + b * 2 ^ 16 + c * 2 ^ 8 + d) a b c d
-octets-of a b c d h i j l = (omega arith, omega arith, omega arith, omega arith)
-
-swap-four-octet : (v k : ℕ) → k < 4 → swap_four v / 2 ^ (8 * k) % 2 ^ 8 ≡ v / 2 ^ (8 * (3 - k)) % 2 ^ 8
-unfolding swap_four
-swap-four-octet v = by_place
-  where
-    e : Octets (swap_four v) (v % 2 ^ 8) (v / 2 ^ 8 % 2 ^ 8) (v / 2 ^ 16 % 2 ^ 8) (v / 2 ^ 24 % 2 ^ 8)
-    e = octets-of (v % 2 ^ 8) (v / 2 ^ 8 % 2 ^ 8) (v / 2 ^ 16 % 2 ^ 8) (v / 2 ^ 24 % 2 ^ 8) (omega arith) (omega arith) (omega arith) (omega arith)
-
-    by_place : (k : ℕ) → k < 4 → swap_four v / 2 ^ (8 * k) % 2 ^ 8 ≡ v / 2 ^ (8 * (3 - k)) % 2 ^ 8
-    by_place zero h = rw div-one e.3
-    by_place (suc zero) h = e.2
-    by_place (suc (suc zero)) h = e.1
-    by_place (suc (suc (suc zero))) h = e.0 ∙ rw div-one
-    by_place (suc (suc (suc (suc k)))) h = omega arith
-
--- octet k from the least significant
-pub swap-octet : (v k : ℕ) → v < 2 ^ 64 → k < 8 → swap_octets v / 2 ^ (8 * k) % 2 ^ 8 ≡ v / 2 ^ (8 * (7 - k)) % 2 ^ 8
-unfolding swap_octets
-swap-octet v k l h = by-half (leb 4 k) refl
-  where
-    by-half : (t : Bool) → leb 4 k ≡ t → swap_octets v / 2 ^ (8 * k) % 2 ^ 8 ≡ v / 2 ^ (8 * (7 - k)) % 2 ^ 8
-    by-half true i =
-        let m : 4 ≤ k = leb-true 4 k i in
-        let e : 8 * k ≡ 32 + 8 * (k - 4) = omega arith in
-        let f : 7 - k ≡ 3 - (k - 4) = omega arith in
-        rw (e, f, ← shr-shr, high (swap_four v) 32 (swap-four-range (v / 2 ^ 32))) (swap-four-octet v (k - 4) (omega arith))
-    by-half false i =
-        let m : k < 4 = leb-false 4 k i in
-        let e : 32 ≡ 8 * k + 8 + (24 - 8 * k) = omega arith in
-        let f : 8 * (7 - k) ≡ 32 + 8 * (3 - k) = omega arith in
-        ap (λ (n : ℕ). (swap_four v * 2 ^ n + swap_four (v / 2 ^ 32)) / 2 ^ (8 * k) % 2 ^ 8) e
-        ∙ bits_below (swap_four v) (swap_four (v / 2 ^ 32)) (8 * k) 8 (24 - 8 * k)
-        ∙ swap-four-octet (v / 2 ^ 32) k m ∙ rw (shr-shr, ← f)
-
-swap-digits : (a b c d : ℕ) → a < 2 ^ 8 → b < 2 ^ 8 → c < 2 ^ 8 → d < 2 ^ 8
-    → swap_four (a + b * 2 ^ 8 + c * 2 ^ 16 + d * 2 ^ 24) ≡ a * 2 ^ 24 + b * 2 ^ 16 + c * 2 ^ 8 + d
-unfolding swap_four
-swap-digits a b c d h i j l =
-    let e : a + b * 2 ^ 8 + c * 2 ^ 16 + d * 2 ^ 24 ≡ d * 2 ^ 24 + c * 2 ^ 16 + b * 2 ^ 8 + a = omega arith in
-    let f = octets-of d c b a l j i h in
-    rw (e, f.3, f.2, f.1, f.0)
-
--- four octets of the slice, the first the least significant
-pub swap-four-value : (s : List ℕ) (i : ℕ) → ((k : ℕ) → get_or s k 0 < 2 ^ 8)
-    → swap_four (get_or s i 0 + get_or s (i + 1) 0 * 2 ^ 8 + get_or s (i + 2) 0 * 2 ^ 16 + get_or s (i + 3) 0 * 2 ^ 24) ≡ bits_value s (i * 8) 32
-swap-four-value s i h =
+-- eight octets, the first the most significant
+pub value-eight : (s : List ℕ) (i : ℕ) → ((k : ℕ) → get_or s k 0 < 2 ^ 8)
+    → get_or s i 0 * 256 ^ 7 + get_or s (i + 1) 0 * 256 ^ 6 + get_or s (i + 2) 0 * 256 ^ 5 + get_or s (i + 3) 0 * 256 ^ 4 + get_or s (i + 4) 0 * 256 ^ 3 + get_or s (i + 5) 0 * 256 ^ 2 + get_or s (i + 6) 0 * 256 ^ 1 + get_or s (i + 7) 0
+    ≡ bits_value s (i * 8) 64
+value-eight s i h =
     let first : bits_value s (i * 8) 8 ≡ get_or s i 0 = value-byte s i (h i) in
     let more : (k : ℕ) → bits_value s (i * 8) (k * 8 + 8) ≡ bits_value s (i * 8) (k * 8) * 2 ^ 8 + get_or s (i + k) 0 = λ k. value-bytes s i k (h (i + k)) in
-    swap-digits (get_or s i 0) (get_or s (i + 1) 0) (get_or s (i + 2) 0) (get_or s (i + 3) 0) (h i) (h (i + 1)) (h (i + 2)) (h (i + 3))
-    ∙ omega (arith, more 1, more 2, more 3)
+    omega (arith, first, more 1, more 2, more 3, more 4, more 5, more 6, more 7)
+
+-- the same, as a list
+abbrev pub eight : List ℕ → ℕ → List ℕ
+eight s i = get_or s i 0 ∷ get_or s (i + 1) 0 ∷ get_or s (i + 2) 0 ∷ get_or s (i + 3) 0 ∷ get_or s (i + 4) 0 ∷ get_or s (i + 5) 0 ∷ get_or s (i + 6) 0 ∷ get_or s (i + 7) 0 ∷ []
+
+pub eight-bytes : (s : List ℕ) (i : ℕ) → ((k : ℕ) → get_or s k 0 < 2 ^ 8) → (k : ℕ) → get_or (eight s i) k 0 < 256
+eight-bytes s i h zero = h i
+eight-bytes s i h (suc zero) = h (i + 1)
+eight-bytes s i h (suc (suc zero)) = h (i + 2)
+eight-bytes s i h (suc (suc (suc zero))) = h (i + 3)
+eight-bytes s i h (suc (suc (suc (suc zero)))) = h (i + 4)
+eight-bytes s i h (suc (suc (suc (suc (suc zero))))) = h (i + 5)
+eight-bytes s i h (suc (suc (suc (suc (suc (suc zero)))))) = h (i + 6)
+eight-bytes s i h (suc (suc (suc (suc (suc (suc (suc zero))))))) = h (i + 7)
+eight-bytes s i h (suc (suc (suc (suc (suc (suc (suc (suc k)))))))) = omega arith
 
 -- ---- the same bits elsewhere
 
@@ -269,13 +221,6 @@ bit-append s r p h = let l : p / 8 < length s = omega arith in rw get_or-append
 
 pub value-append : (s r : List ℕ) (p w : ℕ) → p + w ≤ length s * 8 → bits_value (s ++ r) p w ≡ bits_value s p w
 value-append s r p w h = value_same (s ++ r) s p p w (λ i l. bit-append s r (p + i) (omega arith))
-
--- a turn of the octet-wise read: t bits more, and a number of at most 64 bits
-pub value-turn : (s : List ℕ) (p i t v r q : ℕ) → i + t ≤ 64 → v ≡ bits_value s p i → r ≡ 2 ^ t → q ≡ bits_value s (p + i) t
-    → (v * r + q ≡ bits_value s p (i + t)) × (v * r + q < 2 ^ 64)
-value-turn s p i t v r q h a b d =
-    let e : v * r + q ≡ bits_value s p (i + t) = rw (a, b, d, value-split) in
-    (e, rw e (value-within s p (i + t) 64 h))
 
 -- ---- the bits of a number
 

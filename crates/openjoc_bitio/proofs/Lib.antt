@@ -1,2 +1,4 @@
 pub mod Bits
 pub mod Cursor
+pub mod Results
+pub mod Parts

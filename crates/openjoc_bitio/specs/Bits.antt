@@ -14,14 +14,6 @@ bits_value s p (suc w) = bits_value s p w * 2 + bit_at s (p + w)
 unfoldable pub window_at : List ℕ → ℕ → ℕ
 window_at s p = bits_value s p (64 - p % 8) * 2 ^ (p % 8)
 
--- the four low octets of v in the opposite order
-unfoldable pub swap_four : ℕ → ℕ
-swap_four v = v % 2 ^ 8 * 2 ^ 24 + v / 2 ^ 8 % 2 ^ 8 * 2 ^ 16 + v / 2 ^ 16 % 2 ^ 8 * 2 ^ 8 + v / 2 ^ 24 % 2 ^ 8
-
--- the eight low octets
-unfoldable pub swap_octets : ℕ → ℕ
-swap_octets v = swap_four v * 2 ^ 32 + swap_four (v / 2 ^ 32)
-
 -- the w low bits of v, the most significant first
 unfoldable pub number_bits : ℕ → ℕ → List ℕ
 number_bits zero v = []

@@ -1,13 +1,12 @@
 -- The answers of carriers, by what the definitions of emdf_format find: e is the end of the cursor that was handed in. Assumes nothing.
-use Rattle.std.specs.Prelude.{List, ◌≡◌, ℕ, ◌*◌, ◌≤◌, length, take, eqb, if◌then◌else◌}
+use Rattle.std.specs.Prelude.{List, ◌≡◌, ℕ, ◌*◌, ◌≤◌, length, take, Result, Ok, Err}
 use Rattle.openjoc_bitio.specs.declared.BitCursor.{BitCursor}
 use Rattle.emdf_format.specs.Reader.{extended_value}
 use Rattle.emdf_format.specs.Reading.{Container, Reading, accepted, refusal, reading}
 use Rattle.emdf_format.specs.Calls.{Class, non_emdf, parsed, trailing_data, malformed}
 use Rattle.emdf_format.specs.declared.EmdfError.{EmdfError}
-use Rattle.emdf_fields.specs.declared.FieldAnswer.{FieldAnswer}
-use Rattle.emdf_container.specs.declared.ContainerAnswer.{ContainerAnswer}
-use Rattle.openjoc_emdf.specs.Types.{ParsedEmdf, ParseAnswer, OpenAnswer, CarrierClassification}
+use Rattle.openjoc_emdf.specs.Types.{ParsedEmdf, CarrierClassification}
+use Rattle.emdf_fields.specs.declared.FieldError.{FieldError}
 use Rattle.emdf_fields.specs.Fields.{field_answer}
 use Rattle.emdf_payloads.specs.Payloads.{Listed}
 use Rattle.emdf_container.specs.Container.{container_of}
@@ -17,37 +16,27 @@ use Rattle.emdf_container.specs.Container.{container_of}
 abbrev pub parsed_emdf : ℕ → Container → ParsedEmdf
 parsed_emdf n c = record { container = container_of c; bytes_consumed = record { 0 = n } }
 
-unfoldable pub parsed_of : ContainerAnswer → ℕ → ParseAnswer
-parsed_of (ContainerAnswer.Container c) n = ParseAnswer.Parsed (record { container = c; bytes_consumed = record { 0 = n } })
-parsed_of (ContainerAnswer.Refused why) n = ParseAnswer.Refused why
+unfoldable pub parse_answer : Reading → Result ParsedEmdf EmdfError
+parse_answer (accepted n c) = Ok (parsed_emdf n c)
+parse_answer (refusal why) = Err why
 
-unfoldable pub parse_answer : Reading → ParseAnswer
-parse_answer (accepted n c) = ParseAnswer.Parsed (parsed_emdf n c)
-parse_answer (refusal why) = ParseAnswer.Refused why
-
-abbrev pub reached_by : FieldAnswer → BitCursor
-reached_by (FieldAnswer.Value v c) = c
-reached_by (FieldAnswer.Refused why c) = c
+abbrev pub reached_by : Result (ℕ × BitCursor) FieldError → BitCursor
+reached_by (Ok (v, c)) = c
+reached_by (Err f) = f.cursor
 
 -- past the version, which is 0 and takes 2 bits, and past the key id, in a container of n bytes
 unfoldable pub first_payload : ℕ → List ℕ → BitCursor
 first_payload n s = reached_by (field_answer (n * 8) (extended_value 3 (take n s) (n * 8) 34))
 
-unfoldable pub open_answer : List ℕ → Reading → OpenAnswer
-open_answer s (accepted n c) = OpenAnswer.Open (parsed_emdf n c) (first_payload n s)
-open_answer s (refusal why) = OpenAnswer.Refused why
+unfoldable pub open_answer : List ℕ → Reading → Result (ParsedEmdf × BitCursor) EmdfError
+open_answer s (accepted n c) = Ok (parsed_emdf n c, first_payload n s)
+open_answer s (refusal why) = Err why
 
 unfoldable pub class_answer : Class → CarrierClassification
 class_answer non_emdf = CarrierClassification.NonEmdf
 class_answer (parsed n c) = CarrierClassification.Parsed (parsed_emdf n c)
 class_answer (trailing_data n len) = CarrierClassification.TrailingData (record { 0 = n }) (record { 0 = len })
 class_answer (malformed why) = CarrierClassification.Malformed why
-
--- a reading's answer, as the class of so many bytes that start with the sync word
-unfoldable pub classified_of : ParseAnswer → ℕ → CarrierClassification
-classified_of (ParseAnswer.Parsed p) len =
-    if eqb p.bytes_consumed.0 len then CarrierClassification.Parsed p else CarrierClassification.TrailingData (record { 0 = p.bytes_consumed.0 }) (record { 0 = len })
-classified_of (ParseAnswer.Refused why) len = CarrierClassification.Malformed why
 
 -- what an opened carrier has: its container, and the cursor at its first payload
 pub record Opened (s : List ℕ) (p : ParsedEmdf) (first : BitCursor) : Type 0 where
@@ -58,9 +47,3 @@ pub record Opened (s : List ℕ) (p : ParsedEmdf) (first : BitCursor) : Type 0 w
   pub from : first ≡ first_payload p.bytes_consumed.0 s
   pub end : first.end ≡ p.bytes_consumed.0 * 8
   pub listed : Listed (take p.bytes_consumed.0 s) first container.found
-
--- ---- r is why an answer is refused; of an accepted one nothing is said
-
-abbrev pub parse_error : ParseAnswer → EmdfError → EmdfError
-parse_error (ParseAnswer.Parsed p) r = r
-parse_error (ParseAnswer.Refused why) r = why

@@ -5,10 +5,9 @@
 ghost use Rattle.std.specs.Prelude.{◌≡◌, ◌+◌, ◌-◌, ◌*◌, ◌^◌, ◌≤◌, ◌<◌, length};
 ghost use Rattle.emdf_format.specs.Reading.{reading};
 ghost use Rattle.emdf_format.specs.Calls.{classify};
-ghost use Rattle.openjoc_emdf.specs.Answers.{parse_answer, parsed_of, class_answer, classified_of, reached_by, first_payload, open_answer, parse_error};
+ghost use Rattle.openjoc_emdf.specs.Answers.{parse_answer, class_answer, first_payload, open_answer};
 
-use emdf_container::{ContainerAnswer, EmdfContainer};
-use emdf_fields::FieldAnswer;
+use emdf_container::EmdfContainer;
 use emdf_format::{EmdfError, SYNCWORD, TruncatedPart};
 use openjoc_bitio::{BitCursor, ByteCount};
 
@@ -17,20 +16,6 @@ use openjoc_bitio::{BitCursor, ByteCount};
 pub struct ParsedEmdf {
     pub container: EmdfContainer,
     pub bytes_consumed: ByteCount,
-}
-
-// What reading a carrier answers.
-#[derive(Clone, Copy)]
-pub enum ParseAnswer {
-    Parsed(ParsedEmdf),
-    Refused(EmdfError),
-}
-
-// A carrier that is read, and the cursor at its first payload, which ends where the container does.
-#[derive(Clone, Copy)]
-pub enum OpenAnswer {
-    Open(ParsedEmdf, BitCursor),
-    Refused(EmdfError),
 }
 
 // What a range that may be a carrier is.
@@ -50,25 +35,25 @@ pub enum CarrierClassification {
 }
 
 // Reads the carrier at the start of bytes; what follows it is not looked at.
-pub fn parse_emdf_sync(bytes: &[u8]) -> ParseAnswer
+pub fn parse_emdf_sync(bytes: &[u8]) -> Result<ParsedEmdf, EmdfError>
     ensures { result ≡ parse_answer (reading bytes.now) }
 {
     let length = bytes.len();
     if length < 4 {
-        return ParseAnswer::Refused(EmdfError::TruncatedContainer {
+        return Err(EmdfError::TruncatedContainer {
             part: TruncatedPart::Header,
             declared: 4,
             available: length,
         });
     }
-    let sync = big_endian(bytes[0], bytes[1]);
+    let sync = u16::from_be_bytes([bytes[0], bytes[1]]);
     if sync != SYNCWORD {
-        return ParseAnswer::Refused(EmdfError::InvalidSyncword { actual: sync });
+        return Err(EmdfError::InvalidSyncword { actual: sync });
     }
-    let declared = big_endian(bytes[2], bytes[3]) as usize;
+    let declared = usize::from(u16::from_be_bytes([bytes[2], bytes[3]]));
     let available = length - 4;
     if available < declared {
-        return ParseAnswer::Refused(EmdfError::TruncatedContainer {
+        return Err(EmdfError::TruncatedContainer {
             part: TruncatedPart::Body,
             declared,
             available,
@@ -79,30 +64,20 @@ pub fn parse_emdf_sync(bytes: &[u8]) -> ParseAnswer
         position: 32,
         end: n * 8,
     };
-    parsed(emdf_container::parse_container(&bytes[..n], whole), n)
+    let container = emdf_container::parse_container(&bytes[..n], whole)?;
+    Ok(ParsedEmdf {
+        container,
+        bytes_consumed: ByteCount(n),
+    })
 }
 
-fn parsed(answer: ContainerAnswer, n: usize) -> ParseAnswer
-    ensures { result ≡ parsed_of answer n }
-{
-    match answer {
-        ContainerAnswer::Container(container) => ParseAnswer::Parsed(ParsedEmdf {
-            container,
-            bytes_consumed: ByteCount(n),
-        }),
-        ContainerAnswer::Refused(why) => ParseAnswer::Refused(why),
-    }
-}
-
-// Reads the carrier, for a caller who then goes through its payloads with next_payload.
-pub fn open_carrier(bytes: &[u8]) -> OpenAnswer
+// Reads the carrier, for a caller who then goes through its payloads with next_payload: the cursor is at the first of them, and
+// ends where the container does.
+pub fn open_carrier(bytes: &[u8]) -> Result<(ParsedEmdf, BitCursor), EmdfError>
     ensures { result ≡ open_answer bytes.now (reading bytes.now) }
 {
-    let a = parse_emdf_sync(bytes);
-    let ParseAnswer::Parsed(parsed) = a else {
-        return OpenAnswer::Refused(parse_error(a));
-    };
-    OpenAnswer::Open(parsed, first_payload(bytes, parsed.bytes_consumed.0))
+    let parsed = parse_emdf_sync(bytes)?;
+    Ok((parsed, first_payload(bytes, parsed.bytes_consumed.0)))
 }
 
 // Past the version, which is 0 and takes 2 bits, and past the key id.
@@ -111,44 +86,20 @@ fn first_payload(bytes: &[u8], n: usize) -> BitCursor
     ensures { result ≡ first_payload n bytes.now }
 {
     // A key id below the escape takes 3 bits.
-    if 5 <= n {
-        if openjoc_bitio::window_at(&bytes[..n], 32) >> 59 < 7 {
-            return BitCursor {
-                position: 37,
-                end: n * 8,
-            };
-        }
+    if 5 <= n && openjoc_bitio::window_at(&bytes[..n], 32) >> 59 < 7 {
+        return BitCursor {
+            position: 37,
+            end: n * 8,
+        };
     }
     let key = BitCursor {
         position: 34,
         end: n * 8,
     };
-    reached(emdf_fields::extended_value(&bytes[..n], key, 7, 3))
-}
-
-fn reached(a: FieldAnswer) -> BitCursor
-    ensures { result ≡ reached_by a }
-{
-    match a {
-        FieldAnswer::Value(_, c) => c,
-        FieldAnswer::Refused(_, c) => c,
+    match emdf_fields::extended_value(&bytes[..n], key, 7, 3) {
+        Ok((_, next)) => next,
+        Err(e) => e.cursor,
     }
-}
-
-fn parse_error(a: ParseAnswer) -> EmdfError
-    ensures { result ≡ parse_error a result }
-{
-    match a {
-        ParseAnswer::Parsed(_) => EmdfError::ValueOverflow,
-        ParseAnswer::Refused(why) => why,
-    }
-}
-
-// Two bytes as a number, the first the most significant.
-fn big_endian(a: u8, b: u8) -> u16
-    ensures { result ≡ a * 256 + b }
-{
-    (a as u16) * 256 + b as u16
 }
 
 // What a range of bytes is. It never looks for a sync word but at its start.
@@ -156,29 +107,15 @@ pub fn classify_emdf_carrier(bytes: &[u8]) -> CarrierClassification
     ensures { result ≡ class_answer (classify bytes.now) }
 {
     let length = bytes.len();
-    if length < 2 {
+    if length < 2 || u16::from_be_bytes([bytes[0], bytes[1]]) != SYNCWORD {
         return CarrierClassification::NonEmdf;
     }
-    if big_endian(bytes[0], bytes[1]) != SYNCWORD {
-        return CarrierClassification::NonEmdf;
-    }
-    classified(parse_emdf_sync(bytes), length)
-}
-
-fn classified(answer: ParseAnswer, length: usize) -> CarrierClassification
-    ensures { result ≡ classified_of answer length }
-{
-    match answer {
-        ParseAnswer::Parsed(parsed) => {
-            let n = parsed.bytes_consumed.0;
-            if n == length {
-                return CarrierClassification::Parsed(parsed);
-            }
-            CarrierClassification::TrailingData {
-                container_bytes: ByteCount(n),
-                carrier_bytes: ByteCount(length),
-            }
-        }
-        ParseAnswer::Refused(why) => CarrierClassification::Malformed(why),
+    match parse_emdf_sync(bytes) {
+        Ok(parsed) if parsed.bytes_consumed.0 == length => CarrierClassification::Parsed(parsed),
+        Ok(parsed) => CarrierClassification::TrailingData {
+            container_bytes: parsed.bytes_consumed,
+            carrier_bytes: ByteCount(length),
+        },
+        Err(why) => CarrierClassification::Malformed(why),
     }
 }

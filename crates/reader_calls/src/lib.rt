@@ -1,13 +1,13 @@
 // Each call of a BitReader, made on a reader that holds these bytes and stands at this cursor: for callers with plain
-// parameters.
+// parameters. A call that may move answers its result beside the cursor that the reader is left at.
 #![tactic(auto)]
 
 ghost use Rattle.std.specs.Prelude.{◌≡◌};
-ghost use Rattle.openjoc_bitio.specs.Cursor.{whole_slice, bits_remaining};
-ghost use Rattle.openjoc_bit_reader.specs.Reader.{bits_step, bit_step, window_step, align_step};
+ghost use Rattle.openjoc_bitio.specs.Cursor.{whole_slice, bits_remaining, read_bits, read_bit, take_bits, byte_align};
+ghost use Rattle.openjoc_bit_reader.specs.Reader.{result_of, cursor_after, moved};
 
-use openjoc_bit_reader::{AlignStep, BitReader, BitStep, BitsStep, WindowStep};
-use openjoc_bitio::BitCursor;
+use openjoc_bit_reader::BitReader;
+use openjoc_bitio::{BitCursor, BitError};
 
 pub fn new(s: &[u8]) -> BitCursor
     ensures { result ≡ whole_slice s.now }
@@ -23,47 +23,39 @@ pub fn bits_remaining(s: &[u8], cursor: BitCursor) -> usize
     reader.bits_remaining()
 }
 
-pub fn read_bits(s: &[u8], cursor: BitCursor, n: u8) -> BitsStep
-    ensures { result ≡ bits_step s.now cursor n }
+pub fn read_bits(s: &[u8], cursor: BitCursor, n: u8) -> (Result<u64, BitError>, BitCursor)
+    ensures { (result.0 ≡ result_of (read_bits s.now cursor n)) × (result.1 ≡ cursor_after cursor (read_bits s.now cursor n)) }
 {
     let mut reader = BitReader { bytes: s, cursor };
     let result = reader.read_bits(n);
-    BitsStep {
-        result,
-        cursor: reader.cursor,
-    }
+    (result, reader.cursor)
 }
 
-pub fn read_bit(s: &[u8], cursor: BitCursor) -> BitStep
-    ensures { result ≡ bit_step s.now cursor }
+pub fn read_bit(s: &[u8], cursor: BitCursor) -> (Result<bool, BitError>, BitCursor)
+    ensures { (result.0 ≡ result_of (read_bit s.now cursor)) × (result.1 ≡ cursor_after cursor (read_bit s.now cursor)) }
 {
     let mut reader = BitReader { bytes: s, cursor };
     let result = reader.read_bit();
-    BitStep {
-        result,
-        cursor: reader.cursor,
-    }
+    (result, reader.cursor)
 }
 
-pub fn take_bits(s: &[u8], cursor: BitCursor, count: usize) -> WindowStep
-    ensures { result ≡ window_step s.now cursor count }
+// The window as its cursor.
+pub fn take_bits(
+    s: &[u8],
+    cursor: BitCursor,
+    count: usize,
+) -> (Result<BitCursor, BitError>, BitCursor)
+    ensures { (result.0 ≡ result_of (take_bits s.now cursor count)) × (result.1 ≡ cursor_after cursor (take_bits s.now cursor count)) }
 {
     let mut reader = BitReader { bytes: s, cursor };
-    let taken = reader.take_bits(count);
-    WindowStep {
-        result: taken.result,
-        window: taken.reader.cursor,
-        cursor: reader.cursor,
-    }
+    let result = reader.take_bits(count).map(|window| window.cursor);
+    (result, reader.cursor)
 }
 
-pub fn byte_align(s: &[u8], cursor: BitCursor) -> AlignStep
-    ensures { result ≡ align_step s.now cursor }
+pub fn byte_align(s: &[u8], cursor: BitCursor) -> (Result<(), BitError>, BitCursor)
+    ensures { (result.0 ≡ result_of (moved (byte_align s.now cursor))) × (result.1 ≡ cursor_after cursor (moved (byte_align s.now cursor))) }
 {
     let mut reader = BitReader { bytes: s, cursor };
     let result = reader.byte_align();
-    AlignStep {
-        result,
-        cursor: reader.cursor,
-    }
+    (result, reader.cursor)
 }

@@ -7,8 +7,8 @@ use Rattle.emdf_container.specs.Container.{container_answer}
 use Rattle.emdf_container.proofs.Words.{header-found}
 use Rattle.emdf_container.proofs.parse_container.Goals as goal
 
-pub overflow_add-p : goal.overflow_add-p
-overflow_add-p c =
+pub overflow_add-c1 : goal.overflow_add-c1
+overflow_add-c1 c =
     let a = c.args in
     omega (arith, c.bits_remaining.ensures, remaining-end a.s.now a.c)
 

@@ -1,20 +1,11 @@
 use Prim.Native.Nat.{◌-◌, ◌*◌, ◌≤◌}
-use mathlib.Core.Path.{◌≡◌, sym, ap, ◌∙◌}
 use native.Mathlib.Omega.{arith}
-use Rattle.openjoc_bitio.specs.Bits.{bits_value}
-use Rattle.openjoc_bitio.proofs.Bits.{value_none}
 use Rattle.emdf_container.proofs.Octets.{long-is, short-is}
 use Rattle.emdf_container.proofs.Words.{shifted}
 use Rattle.emdf_container.proofs.protection_at.Goals as goal
 
 pub returns-then-n-eq16 : goal.returns-then-n-eq16
 returns-then-n-eq16 c = long-is _ _ _ c.if-n-eq16.true c.word_at.ensures c.word_at-then-n-eq16.ensures
-
-pub returns-then-n-eq0 : goal.returns-then-n-eq0
-returns-then-n-eq0 c =
-    let a = c.args in
-    let z : 0 ≡ 8 * a.n = omega arith in
-    short-is _ _ _ (omega arith) (sym (value_none a.s.now a.p) ∙ ap (bits_value a.s.now a.p) z)
 
 pub overflow_sub-result : goal.overflow_sub-result
 overflow_sub-result c =

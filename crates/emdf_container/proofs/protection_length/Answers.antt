@@ -1,3 +1,4 @@
+use native.Mathlib.Omega.{arith}
 use Rattle.emdf_format.specs.Contents.{protection_length}
 use Rattle.emdf_container.proofs.Octets.{protection-long}
 use Rattle.emdf_container.proofs.protection_length.Goals as goal
@@ -16,4 +17,4 @@ returns-in-2 c = rw c.in-2.is
 
 pub returns-in_default : goal.returns-in_default
 unfolding protection_length
-returns-in_default c = protection-long c.args.code c.in_default.in_default-own.rest.0.0.1 c.in_default.in_default-own.rest.0.1 c.in_default.in_default-own.rest.1
+returns-in_default c = protection-long c.args.code (omega arith)

@@ -5,11 +5,11 @@ use Rattle.emdf_field_writer.proofs.put_present.Goals as goal
 
 pub put_field-requires : goal.put_field-requires
 put_field-requires c =
-    (c.requires.0, room-same _ (field-present (number_bits c.args.width) c.in-Present.is) c.requires.1)
+    (c.requires.0, room-same _ (field-present (number_bits c.args.width) c.in-Some.is) c.requires.1)
 
-pub returns-in-Absent : goal.returns-in-Absent
-returns-in-Absent c = rw (field-absent (number_bits c.args.width) c.in-Absent.is) (none-put _ _)
+pub returns-in-None : goal.returns-in-None
+returns-in-None c = rw (field-absent (number_bits c.args.width) c.in-None.is) (none-put _ _)
 
-pub returns-in-Present : goal.returns-in-Present
-returns-in-Present c =
-    rw (field-present (number_bits c.args.width) c.in-Present.is) c.put_field.ensures
+pub returns-in-Some : goal.returns-in-Some
+returns-in-Some c =
+    rw (field-present (number_bits c.args.width) c.in-Some.is) c.put_field.ensures

@@ -8,26 +8,26 @@ use Rattle.emdf_field_writer.proofs.Settings.{flag-clear, offset-set}
 use Rattle.emdf_field_writer.proofs.put_sample_offset.Goals as goal
 
 pub put_field-requires : goal.put_field-requires
-put_field-requires c = (omega arith, room-same _ (flag-clear sample_offset_bits c.in-Absent.is) c.requires)
+put_field-requires c = (omega arith, room-same _ (flag-clear sample_offset_bits c.in-None.is) c.requires)
 
 pub put_field-flag-requires : goal.put_field-flag-requires
-put_field-flag-requires c = (omega arith, room-first _ _ _ (room-same _ (offset-set c.in-Present.is) c.requires))
+put_field-flag-requires c = (omega arith, room-first _ _ _ (room-same _ (offset-set c.in-Some.is) c.requires))
 
 pub put_field-value-requires : goal.put_field-value-requires
 put_field-value-requires c =
-    let after-flag : Room c.put_field-flag.new.out c.put_field-flag.result.0 (number_bits 11 c.in-Present.v ⨟ number_bits 1 0) =
-    room_next _ _ _ _ _ (room-same _ (offset-set c.in-Present.is) c.requires) c.put_field-flag.ensures c.put_field-flag.auto.out in
+    let after-flag : Room c.put_field-flag.new.out c.put_field-flag.result.0 (number_bits 11 c.in-Some.v ⨟ number_bits 1 0) =
+    room_next _ _ _ _ _ (room-same _ (offset-set c.in-Some.is) c.requires) c.put_field-flag.ensures c.put_field-flag.auto.out in
     (omega arith, room-first _ _ _ after-flag)
 
-pub put_field-requires-in-Present : goal.put_field-requires-in-Present
-put_field-requires-in-Present c =
-    let after-flag : Room c.put_field-flag.new.out c.put_field-flag.result.0 (number_bits 11 c.in-Present.v ⨟ number_bits 1 0) =
-    room_next _ _ _ _ _ (room-same _ (offset-set c.in-Present.is) c.requires) c.put_field-flag.ensures c.put_field-flag.auto.out in
+pub put_field-requires-in-Some : goal.put_field-requires-in-Some
+put_field-requires-in-Some c =
+    let after-flag : Room c.put_field-flag.new.out c.put_field-flag.result.0 (number_bits 11 c.in-Some.v ⨟ number_bits 1 0) =
+    room_next _ _ _ _ _ (room-same _ (offset-set c.in-Some.is) c.requires) c.put_field-flag.ensures c.put_field-flag.auto.out in
     (omega arith, room_next _ _ _ _ _ after-flag c.put_field-value.ensures c.put_field-value.auto.out)
 
-pub returns-in-Absent : goal.returns-in-Absent
-returns-in-Absent c = rw (flag-clear sample_offset_bits c.in-Absent.is) c.put_field.ensures
+pub returns-in-None : goal.returns-in-None
+returns-in-None c = rw (flag-clear sample_offset_bits c.in-None.is) c.put_field.ensures
 
-pub returns-in-Present : goal.returns-in-Present
-returns-in-Present c =
-    rw (offset-set c.in-Present.is) (then-put _ _ _ _ _ _ c.put_field-flag.ensures (then-put _ _ _ _ _ _ c.put_field-value.ensures c.put_field-in-Present.ensures))
+pub returns-in-Some : goal.returns-in-Some
+returns-in-Some c =
+    rw (offset-set c.in-Some.is) (then-put _ _ _ _ _ _ c.put_field-flag.ensures (then-put _ _ _ _ _ _ c.put_field-value.ensures c.put_field-in-Some.ensures))

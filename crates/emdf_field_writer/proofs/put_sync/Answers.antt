@@ -10,4 +10,4 @@ put_u16-requires-2 c =
     omega (arith, c.put_u16.auto.out, c.requires.0, length-sync c.args.size.0)
 
 pub returns : goal.returns
-returns c = sync-put _ _ _ _ c.put_u16.ensures c.put_u16-2.ensures
+returns c = sync-put _ _ _ _ (rw c.from.ensures at c.put_u16.ensures) c.put_u16-2.ensures

@@ -6,7 +6,9 @@ use Rattle.emdf_format.specs.Reader.{cursor_at}
 use Rattle.emdf_format.proofs.Standing.{bit_limit, remaining-limit}
 use Rattle.emdf_format.proofs.Loops.{octets-there, octets-short}
 use Rattle.emdf_fields.specs.Fields.{count_answer}
-use Rattle.emdf_fields.specs.declared.CountAnswer.TheVariants.{Counted}
+use Rattle.emdf_format.specs.declared.EmdfError.{EmdfError}
+use Rattle.openjoc_bitio.specs.declared.BitCursor.{BitCursor}
+use Rattle.std.specs.Prelude.{Result, Ok}
 use Rattle.emdf_fields.proofs.Octets.{length-octets-at}
 use Rattle.emdf_fields.proofs.skip_octets.Goals as goal
 
@@ -34,4 +36,4 @@ returns c =
     let h : c.bits_remaining-remaining.result ≡ bit_limit s e - p = c.bits_remaining-remaining.ensures ∙ remaining-limit s e p in
     let k : 8 * a.n ≤ bit_limit s e - p = omega arith in
     let m : p + a.n * 8 ≡ p + 8 * a.n = omega arith in
-    rw (octets-there a.n s e p k, length-octets-at) (ap (λ (q : ℕ). Counted a.n (cursor_at e q)) m)
+    rw (octets-there a.n s e p k, length-octets-at) (ap {B = Result (ℕ × BitCursor) EmdfError} (λ (q : ℕ). Ok (a.n, cursor_at e q)) m)

@@ -1,10 +1,7 @@
+use Rattle.std.proofs.Common.{rules}
 use Rattle.emdf_format.specs.Contents.{when_present, up_to}
 use Rattle.emdf_measure.proofs.at_most.Goals as goal
 
-pub returns-in-Absent : goal.returns-in-Absent
-unfolding when_present
-returns-in-Absent c = rw c.in-Absent.is
-
-pub returns-in-Present : goal.returns-in-Present
+pub returns : goal.returns
 unfolding when_present up_to
-returns-in-Present c = rw c.in-Present.is
+returns c = search rules

@@ -1,23 +1,16 @@
-use borrow.Author.Tests.{ne_eqb}
+use Rattle.std.proofs.Common.{arith}
+use Rattle.std.proofs.lemmas.Bool.Decides.{nat_tests}
 use Rattle.emdf_format.specs.Contents.{protection_code, protection_length, codable}
 use Rattle.emdf_measure.proofs.is_codable.Goals as goal
 
 pub returns-in-0 : goal.returns-in-0
 unfolding codable protection_code protection_length
-returns-in-0 c = rw c.in-0.is
+returns-in-0 c = grind (arith, nat_tests)
 
-pub returns-in-1 : goal.returns-in-1
+pub returns-in-0-2 : goal.returns-in-0-2
 unfolding codable protection_code protection_length
-returns-in-1 c = rw c.in-1.is
-
-pub returns-in-4 : goal.returns-in-4
-unfolding codable protection_code protection_length
-returns-in-4 c = rw c.in-4.is
-
-pub returns-in-16 : goal.returns-in-16
-unfolding codable protection_code protection_length
-returns-in-16 c = rw c.in-16.is
+returns-in-0-2 c = grind (arith, nat_tests)
 
 pub returns-in_default : goal.returns-in_default
 unfolding codable protection_code protection_length
-returns-in_default c = simp (ne_eqb _ 0 c.in_default.in_default-own.rest.0.0.0.1, ne_eqb _ 1 c.in_default.in_default-own.rest.0.0.1, ne_eqb _ 4 c.in_default.in_default-own.rest.0.1, ne_eqb _ 16 c.in_default.in_default-own.rest.1)
+returns-in_default c = grind (arith, nat_tests)

@@ -1,11 +1,12 @@
-use native.Mathlib.Omega.{arith}
+use Rattle.std.proofs.Common.{arith}
+use Rattle.std.proofs.lemmas.Bool.Decides.{nat_tests}
 use Rattle.emdf_format.specs.Contents.{present_bits}
 use Rattle.emdf_measure.proofs.present_bits.Goals as goal
 
-pub returns-in-Absent : goal.returns-in-Absent
+pub returns-then-is_some : goal.returns-then-is_some
 unfolding present_bits
-returns-in-Absent c = (rw c.in-Absent.is, omega arith)
+returns-then-is_some c = grind (arith, nat_tests)
 
-pub returns-in-Present : goal.returns-in-Present
+pub returns-else-is_some : goal.returns-else-is_some
 unfolding present_bits
-returns-in-Present c = (rw c.in-Present.is, omega arith)
+returns-else-is_some c = grind (arith, nat_tests)

@@ -1,4 +1,5 @@
-use borrow.Author.Tests.{ne_eqb}
+use Rattle.std.proofs.Common.{arith}
+use Rattle.std.proofs.lemmas.Bool.Decides.{nat_tests}
 use Rattle.emdf_format.specs.Contents.{protection_code}
 use Rattle.emdf_measure.proofs.protection_code.Goals as goal
 
@@ -16,4 +17,4 @@ returns-in-4 c = rw c.in-4.is
 
 pub returns-in_default : goal.returns-in_default
 unfolding protection_code
-returns-in_default c = simp (ne_eqb _ 0 c.in_default.in_default-own.rest.0.0.1, ne_eqb _ 1 c.in_default.in_default-own.rest.0.1, ne_eqb _ 4 c.in_default.in_default-own.rest.1)
+returns-in_default c = grind (arith, nat_tests)

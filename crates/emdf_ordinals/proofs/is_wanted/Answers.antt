@@ -1,15 +1,11 @@
-use mathlib.Core.Path.{◌≡◌}
-use native.Mathlib.Omega.{arith}
 use borrow.Author.Tests.{ne_eqb, eq-eqb}
 use Rattle.emdf_format.specs.Contents.{◌&◌}
 use Rattle.emdf_ordinals.proofs.is_wanted.Goals as goal
 
 pub returns-then-found-id : goal.returns-then-found-id
 unfolding ◌&◌
-returns-then-found-id c = rw (ne_eqb _ _ c.if-found-id.true)
+returns-then-found-id c = rw (eq-eqb _ _ c.if-found-id.true)
 
-pub returns : goal.returns
+pub returns-else-found-id : goal.returns-else-found-id
 unfolding ◌&◌
-returns c =
-    let e : c.args.found ≡ c.args.id = omega (arith, c.if-found-id.false) in
-    rw (eq-eqb _ _ e)
+returns-else-found-id c = rw (ne_eqb _ _ c.if-found-id.false)

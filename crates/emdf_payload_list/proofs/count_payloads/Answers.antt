@@ -1,26 +1,38 @@
-use mathlib.Core.Path.{refl, sym, ◌∙◌}
+use mathlib.Core.Path.{◌≡◌, refl, sym, ◌∙◌}
 use native.Mathlib.Omega.{arith}
-use Rattle.emdf_payload_list.proofs.Counting.{count-all, at-end, at-refused, at-payload, count_past, count-end, count-refused}
+use Rattle.std.proofs.Common.{rules}
+use Rattle.std.specs.Prelude.{Err}
+use Rattle.emdf_format.specs.Groups.{larger}
+use Rattle.emdf_format.specs.declared.PayloadRecord.{PayloadRecord}
+use Rattle.emdf_payloads.specs.Payloads.{record_groups}
+use Rattle.emdf_payload_list.proofs.Counting.{More, count-all, at-end, at-refused, at-payload, count_past, count-end, count-refused}
 use Rattle.emdf_payload_list.proofs.count_payloads.Goals as goal
+use Rattle.emdf_payload_list.proofs.count_payloads.Goals.{In-Some}
 
-pub loop-most-init : goal.loop-most-init
-loop-most-init c = (omega arith, refl)
+pub loop-passed-init : goal.loop-passed-init
+loop-passed-init c = (omega arith, refl)
+
+-- what is passed is a payload, and what is left to count is after it
+more : (c : In-Some) → (r : PayloadRecord) × (larger c.loop-passed.groups (record_groups r) ≡ c.in-Some.most) × More c.loop-passed.count c.loop-passed.groups c.args.s.now c.loop-passed.at r c.in_ok-passed.next
+more c =
+    let (r, i, g) = count_past _ _ (rw c.in-Some.is at (sym c.in_ok-passed.ensures)) in
+    (r, g, at-payload _ _ _ _ i)
 
 pub overflow_add-count : goal.overflow_add-count
-overflow_add-count c = omega (arith, (at-payload c.loop-most.count c.loop-most.groups c.args.s.now c.loop-most.at (count_past _ _ (sym c.pass_payload-step.ensures ∙ c.in-Past.is)).1).onward.moves)
+overflow_add-count c = omega (arith, (more (goal.at.overflow_add-count c).In-Some).2.onward.moves)
 
-pub loop-most-smaller : goal.loop-most-smaller
-loop-most-smaller c = (at-payload c.loop-most.count c.loop-most.groups _ _ (count_past _ _ (sym c.pass_payload-step.ensures ∙ c.in-Past.is)).1).onward.less
+pub loop-passed-smaller : goal.loop-passed-smaller
+loop-passed-smaller c = (more (goal.at.loop-passed-smaller c).In-Some).2.onward.less
 
-pub loop-most-preserved : goal.loop-most-preserved
-loop-most-preserved c =
-    let o = c.loop-most in
-    let (r, i, g) = count_past _ _ (sym c.pass_payload-step.ensures ∙ c.in-Past.is) in
-    let m = at-payload o.count o.groups _ _ i in
-    (omega (arith, m.onward.moves), rw g at m.left ∙ o.invariant.1)
+pub loop-passed-preserved : goal.loop-passed-preserved
+loop-passed-preserved c =
+    let (r, g, m) = more (goal.at.loop-passed-preserved c).In-Some in
+    (omega (arith, m.onward.moves), rw g at m.left ∙ c.loop-passed.invariant.1)
 
-pub returns-in-End : goal.returns-in-End
-returns-in-End c = at-end _ _ _ _ (count-end _ _ (sym c.pass_payload-step.ensures ∙ c.in-End.is)) ∙ c.loop-most.invariant.1 ∙ count-all _ _
+pub returns-in_default : goal.returns-in_default
+returns-in_default c = at-end _ _ _ _ (count-end _ _ (rw c.in_default.is at (sym c.in_ok-passed.ensures))) ∙ c.loop-passed.invariant.1 ∙ count-all _ _
 
-pub returns-in-Refused : goal.returns-in-Refused
-returns-in-Refused c = at-refused _ _ _ _ (count-refused _ _ (sym c.pass_payload-step.ensures ∙ c.in-Refused.is)) ∙ c.loop-most.invariant.1 ∙ count-all _ _
+pub returns-in_err-passed : goal.returns-in_err-passed
+returns-in_err-passed c =
+    let z : c.from_residual.result ≡ Err c.in_err-passed.field-0.0 = search rules in
+    z ∙ at-refused _ _ _ _ (count-refused _ _ (sym c.in_err-passed.ensures)) ∙ c.loop-passed.invariant.1 ∙ count-all _ _

@@ -11,4 +11,4 @@ extended_groups-id-requires c = (omega arith, omega arith, refl)
 pub returns : goal.returns
 unfolding record_groups
 returns c =
-    rw (c.larger-2.ensures, c.bits_between.ensures, c.larger.ensures, c.extended_groups-id.ensures, c.larger-settings.ensures, c.optional_groups-2.ensures, c.optional_groups.ensures)
+    rw (c.larger-2.ensures, c.saturating_sub.ensures, c.larger.ensures, c.extended_groups-id.ensures, c.larger-settings.ensures, c.optional_groups-2.ensures, c.optional_groups.ensures)

@@ -25,23 +25,27 @@ fits : {s : List ℕ} {p : ParsedEmdf} {first at mark : BitCursor} {k later : �
     → mark.position + 5 + 4 + 8 * octets p ≤ 8 * 65539
 fits {s} {first = first} {k = k} r a p l m = let ((o, h), w) = r in rw (marked s first k a p l m) (end_fits o w _ h)
 
+pub overflow_sub-parsed : goal.overflow_sub-parsed
+overflow_sub-parsed c = let ((o, h), w) = c.requires in omega (arith, count o)
+
 pub overflow_add-codes : goal.overflow_add-codes
-overflow_add-codes c = omega (arith, fits c.requires c.skip_payloads-at.ensures c.place_at-placed.ensures c.places_after-later.ensures c.skip_payloads-mark.ensures)
+overflow_add-codes c = omega (arith, fits c.requires c.skip_payloads-at.ensures c.place_at-placed.ensures (omega arith) c.skip_payloads-mark.ensures)
 
 pub overflow_add-octets : goal.overflow_add-octets
-overflow_add-octets c = omega (arith, fits c.requires c.skip_payloads-at.ensures c.place_at-placed.ensures c.places_after-later.ensures c.skip_payloads-mark.ensures)
+overflow_add-octets c = omega (arith, fits c.requires c.skip_payloads-at.ensures c.place_at-placed.ensures (omega arith) c.skip_payloads-mark.ensures)
 
 pub overflow_add-result : goal.overflow_add-result
-overflow_add-result c = omega (arith, fits c.requires c.skip_payloads-at.ensures c.place_at-placed.ensures c.places_after-later.ensures c.skip_payloads-mark.ensures)
+overflow_add-result c = omega (arith, fits c.requires c.skip_payloads-at.ensures c.place_at-placed.ensures (omega arith) c.skip_payloads-mark.ensures)
 
 pub overflow_mul-result : goal.overflow_mul-result
-overflow_mul-result c = omega (arith, fits c.requires c.skip_payloads-at.ensures c.place_at-placed.ensures c.places_after-later.ensures c.skip_payloads-mark.ensures)
+overflow_mul-result c = omega (arith, fits c.requires c.skip_payloads-at.ensures c.place_at-placed.ensures (omega arith) c.skip_payloads-mark.ensures)
 
 pub overflow_add-result-2 : goal.overflow_add-result-2
-overflow_add-result-2 c = omega (arith, fits c.requires c.skip_payloads-at.ensures c.place_at-placed.ensures c.places_after-later.ensures c.skip_payloads-mark.ensures)
+overflow_add-result-2 c = omega (arith, fits c.requires c.skip_payloads-at.ensures c.place_at-placed.ensures (omega arith) c.skip_payloads-mark.ensures)
 
 pub returns : goal.returns
 returns c o =
     let ((p, h), w) = c.requires in
-    rw (marked c.args.source.now c.args.first c.args.place c.skip_payloads-at.ensures c.place_at-placed.ensures c.places_after-later.ensures c.skip_payloads-mark.ensures, c.place_at-placed.ensures, c.skip_payloads-at.ensures)
+    let later : c.saturating_sub-later.result ≡ c.args.parsed.container.payloads - 1 - c.args.place = omega arith in
+    rw (marked c.args.source.now c.args.first c.args.place c.skip_payloads-at.ensures c.place_at-placed.ensures later c.skip_payloads-mark.ensures, c.place_at-placed.ensures, c.skip_payloads-at.ensures)
     (laid o w _ (omega (arith, h, count p, count o)))

@@ -32,26 +32,26 @@ returns-then-parsed-source c = trailing _ _ _ _ _ c.requires.is c.if-parsed-sour
 
 pub returns-then-not-place_exists : goal.returns-then-not-place_exists
 returns-then-not-place_exists c =
-    no_place _ _ _ _ _ c.requires.is c.if-parsed-source.false (fails (ap not c.if-not-place_exists.true) (exists c.requires c.args.request c.args.octets.now c.args.secondary.now c.place_exists.ensures))
+    no_place _ _ _ _ _ c.requires.is c.if-parsed-source.false (fails (ap not c.if-not-place_exists.true) (exists c.requires c.args.change.request c.args.change.octets.now c.args.change.secondary.now c.place_exists.ensures))
 
 pub returns-then-not-brought : goal.returns-then-not-brought
 returns-then-not-brought c =
-    let there = holds (ap not c.if-not-place_exists.false) (exists c.requires c.args.request c.args.octets.now c.args.secondary.now c.place_exists.ensures) in
+    let there = holds (ap not c.if-not-place_exists.false) (exists c.requires c.args.change.request c.args.change.octets.now c.args.change.secondary.now c.place_exists.ensures) in
     not-writable _ _ _ _ _ c.requires.is c.if-parsed-source.false there (fails c.if-not-brought.true (ap (λ (x : Brought). x.writable) c.brought_by-brought.ensures.0))
 
 pub lay_out-layout-requires : goal.lay_out-layout-requires
 lay_out-layout-requires c =
-    let there = holds (ap not c.if-not-place_exists.false) (exists c.requires c.args.request c.args.octets.now c.args.secondary.now c.place_exists.ensures) in
+    let there = holds (ap not c.if-not-place_exists.false) (exists c.requires c.args.change.request c.args.change.octets.now c.args.change.secondary.now c.place_exists.ensures) in
     ((c.requires, rw c.stretch_of-stretch.ensures (place_in _ _ _ _ there)), c.if-parsed-source.false)
 
 pub measured-requires : goal.measured-requires
 measured-requires c =
-    let there = holds (ap not c.if-not-place_exists.false) (exists c.requires c.args.request c.args.octets.now c.args.secondary.now c.place_exists.ensures) in
-    rw (layout_is c.requires c.args.request c.stretch_of-stretch.ensures c.lay_out-layout.ensures, c.stretch_of-stretch.ensures) (cut_in _ _ _ _ c.requires.is there, c.brought_by-brought.ensures.1)
+    let there = holds (ap not c.if-not-place_exists.false) (exists c.requires c.args.change.request c.args.change.octets.now c.args.change.secondary.now c.place_exists.ensures) in
+    rw (layout_is c.requires c.args.change.request c.stretch_of-stretch.ensures c.lay_out-layout.ensures, c.stretch_of-stretch.ensures) (cut_in _ _ _ _ c.requires.is there, c.brought_by-brought.ensures.1)
 
 pub returns : goal.returns
 returns c =
-    let there = holds (ap not c.if-not-place_exists.false) (exists c.requires c.args.request c.args.octets.now c.args.secondary.now c.place_exists.ensures) in
-    let fit : (bringing c.args.request c.args.octets.now c.args.secondary.now).brought.writable ≡ true = holds c.if-not-brought.false (ap (λ (x : Brought). x.writable) c.brought_by-brought.ensures.0) in
-    let m = rw (layout_is c.requires c.args.request c.stretch_of-stretch.ensures c.lay_out-layout.ensures, c.stretch_of-stretch.ensures, c.brought_by-brought.ensures.0) at c.measured.ensures in
+    let there = holds (ap not c.if-not-place_exists.false) (exists c.requires c.args.change.request c.args.change.octets.now c.args.change.secondary.now c.place_exists.ensures) in
+    let fit : (bringing c.args.change.request c.args.change.octets.now c.args.change.secondary.now).brought.writable ≡ true = holds c.if-not-brought.false (ap (λ (x : Brought). x.writable) c.brought_by-brought.ensures.0) in
+    let m = rw (layout_is c.requires c.args.change.request c.stretch_of-stretch.ensures c.lay_out-layout.ensures, c.stretch_of-stretch.ensures, c.brought_by-brought.ensures.0) at c.measured.ensures in
     m ∙ measures _ _ _ _ _ c.requires.is c.if-parsed-source.false there fit

@@ -1,6 +1,8 @@
-use mathlib.Core.Path.{sym, ◌∙◌}
+use mathlib.Core.Path.{◌≡◌, sym, ◌∙◌}
 use native.Mathlib.Omega.{arith}
 use borrow.Author.Tests.{lt-leb, le-leb}
+use Rattle.std.specs.Prelude.{Err}
+use Rattle.std.proofs.Common.{rules}
 use Rattle.openjoc_bitio.proofs.Bits.{value-range}
 use Rattle.emdf_recipe.specs.File.{recipe_of, edits_after}
 use Rattle.emdf_recipe.proofs.File.{link-next, rises-above, going_start, going_on, going-broken, going_end}
@@ -24,13 +26,15 @@ pub overflow_add-edits : goal.overflow_add-edits
 overflow_add-edits c = let l = c.loop-i in omega (arith, l.invariant.0.few c.loop-i-test.true, l.invariant.0.low)
 
 pub loop-i-smaller : goal.loop-i-smaller
-loop-i-smaller c = (rises-above _ _ _ c.loop-i-test.true c.loop-i.invariant.0.low (link-next _ _ _ _ (sym c.link_at.ensures ∙ c.in-Next.is)).rising).falls
+loop-i-smaller c = (rises-above _ _ _ c.loop-i-test.true c.loop-i.invariant.0.low (link-next _ _ _ _ (sym c.link_at.ensures ∙ c.in_ok-i.was)).rising).falls
 
 pub loop-i-preserved : goal.loop-i-preserved
-loop-i-preserved c = (going_on _ _ _ _ c.loop-i.invariant.0 c.loop-i-test.true _ (sym c.link_at.ensures ∙ c.in-Next.is), c.loop-i.invariant.1)
+loop-i-preserved c = (going_on _ _ _ _ c.loop-i.invariant.0 c.loop-i-test.true _ (sym c.link_at.ensures ∙ c.in_ok-i.was), c.loop-i.invariant.1)
 
-pub returns-in-Broken : goal.returns-in-Broken
-returns-in-Broken c = sym (going-broken _ _ _ _ c.loop-i.invariant.0 c.loop-i-test.true _ (sym c.link_at.ensures ∙ c.in-Broken.is))
+pub returns-in_err-i : goal.returns-in_err-i
+returns-in_err-i c =
+    let h : c.from_residual.result ≡ Err c.in_err-i.field-0.0 = search rules in
+    h ∙ sym (going-broken _ _ _ _ c.loop-i.invariant.0 c.loop-i-test.true _ (sym c.link_at.ensures ∙ c.in_err-i.was))
 
 pub returns : goal.returns
 returns c = sym (going_end _ _ _ _ c.loop-i.invariant.0 c.loop-i-test.false)

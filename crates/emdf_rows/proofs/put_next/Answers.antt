@@ -4,11 +4,6 @@ use native.Mathlib.Omega.{arith}
 use Rattle.emdf_rows.proofs.Rows.{puts-numbered, compact-payload}
 use Rattle.emdf_rows.proofs.put_next.Goals as goal
 
-pub compact_record-record-requires : goal.compact_record-record-requires
-compact_record-record-requires c =
-    let n = c.compact_at-found.ensures in
-    (n.head, n.size, n.near (omega arith), n.fits)
-
 pub returns : goal.returns
 returns c found next e =
     let small : c.compact_record-record.result.id < 2 ^ 64 = omega arith in

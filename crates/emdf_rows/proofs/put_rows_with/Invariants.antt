@@ -1,4 +1,3 @@
-use Prim.Native.Nat.{◌-◌, ◌≤◌}
 use mathlib.Core.Path.{◌≡◌}
 use mathlib.Core.List.{List}
 use lib.ListN.{length}
@@ -11,10 +10,5 @@ use Rattle.emdf_rows.proofs.Rows.{Left}
 use Rattle.emdf_rows.proofs.put_rows_with.Given as goal
 
 abbrev pub invariant-loop-place : goal.invariant-loop-place
-invariant-loop-place l = (l.place ≤ l.count)
-    × (length l.table ≡ length l.initial.table)
-    × (length l.slots ≡ length l.initial.slots)
-    × ((xs : List Found) → Listed l.s l.initial.at xs → length xs ≡ l.count → Left l.s l.at (ids_in xs) l.place l.count l.table l.slots (sets l.initial.table 0 (rows_bytes (rows_of xs))))
-
-abbrev pub decreases-loop-place : goal.decreases-loop-place
-decreases-loop-place l = l.count - l.place
+invariant-loop-place l =
+    (xs : List Found) → Listed l.s l.initial.at xs → length xs ≡ l.count → Left l.s l.at (ids_in xs) l.place l.count l.table l.slots (sets l.initial.table 0 (rows_bytes (rows_of xs)))

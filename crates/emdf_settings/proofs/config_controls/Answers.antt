@@ -1,32 +1,33 @@
+use Rattle.std.proofs.Common.{rules}
 use mathlib.Core.Path.{refl, sym, ◌∙◌}
-use Rattle.emdf_settings.specs.Settings.{config_answer}
-use Rattle.emdf_settings.specs.declared.ConfigAnswer.TheVariants.{Refused}
+use Rattle.emdf_fields.specs.Fields.{answer}
 use Rattle.emdf_format.specs.Reader.{give}
 use Rattle.emdf_format.specs.Reading.{config_controls}
-use Rattle.emdf_settings.proofs.Answers.{optional-found, by-optional, present-as, config-refuses}
+use Rattle.emdf_fields.proofs.Answers.{found, by_answer, answer-refuses}
+use Rattle.emdf_settings.proofs.Answers.{present-as}
 use Rattle.emdf_fields.proofs.Answers.{via}
 use Rattle.emdf_settings.proofs.config_controls.Goals as goal
 
-pub returns-in_default : goal.returns-in_default
-unfolding config_controls config_answer give
-returns-in_default c = by-optional config_answer Refused config-refuses _ _ _ _ _ (present-as _ _ _ _ c.present_bits-a1.ensures c.has_aligned.ensures) c.in_default.is c.optional_error.ensures
+pub returns-in_err-aligned : goal.returns-in_err-aligned
+unfolding config_controls answer give
+returns-in_err-aligned c = by_answer answer answer-refuses _ _ _ _ _ (present-as _ _ _ _ c.present_bits.ensures c.has_aligned.ensures) c.in_err-aligned.was (search rules)
 
-pub returns-in_default-a2 : goal.returns-in_default-a2
-unfolding config_controls config_answer give
-returns-in_default-a2 c = via config_answer _ _ _ _ _ (optional-found _ (sym (present-as _ _ _ _ c.present_bits-a1.ensures c.has_aligned.ensures) ∙ c.in-Value.is)) (by-optional config_answer Refused config-refuses _ _ _ _ _ (present-as _ _ _ _ c.present_bits-a2.ensures c.is_one.ensures) c.in_default-a2.is c.optional_error-in_default-a2.ensures)
+pub returns-in_err-create : goal.returns-in_err-create
+unfolding config_controls answer give
+returns-in_err-create c = via answer _ _ _ _ _ (found _ (sym (present-as _ _ _ _ c.present_bits.ensures c.has_aligned.ensures) ∙ c.in_ok-aligned.was)) (by_answer answer answer-refuses _ _ _ _ _ (present-as _ _ _ _ c.present_bits-2.ensures c.is_one.ensures) c.in_err-create.was (search rules))
 
-pub returns-in_default-a3 : goal.returns-in_default-a3
-unfolding config_controls config_answer give
-returns-in_default-a3 c = via config_answer _ _ _ _ _ (optional-found _ (sym (present-as _ _ _ _ c.present_bits-a1.ensures c.has_aligned.ensures) ∙ c.in-Value.is)) (via config_answer _ _ _ _ _ (optional-found _ (sym (present-as _ _ _ _ c.present_bits-a2.ensures c.is_one.ensures) ∙ c.in-Value-a2.is)) (by-optional config_answer Refused config-refuses _ _ _ _ _ (present-as _ _ _ _ c.present_bits-a3.ensures c.is_one-2.ensures) c.in_default-a3.is c.optional_error-in_default-a3.ensures))
+pub returns-in_err-remove : goal.returns-in_err-remove
+unfolding config_controls answer give
+returns-in_err-remove c = via answer _ _ _ _ _ (found _ (sym (present-as _ _ _ _ c.present_bits.ensures c.has_aligned.ensures) ∙ c.in_ok-aligned.was)) (via answer _ _ _ _ _ (found _ (sym (present-as _ _ _ _ c.present_bits-2.ensures c.is_one.ensures) ∙ c.in_ok-create.was)) (by_answer answer answer-refuses _ _ _ _ _ (present-as _ _ _ _ c.present_bits-3.ensures c.is_one-2.ensures) c.in_err-remove.was (search rules)))
 
-pub returns-in_default-a4 : goal.returns-in_default-a4
-unfolding config_controls config_answer give
-returns-in_default-a4 c = via config_answer _ _ _ _ _ (optional-found _ (sym (present-as _ _ _ _ c.present_bits-a1.ensures c.has_aligned.ensures) ∙ c.in-Value.is)) (via config_answer _ _ _ _ _ (optional-found _ (sym (present-as _ _ _ _ c.present_bits-a2.ensures c.is_one.ensures) ∙ c.in-Value-a2.is)) (via config_answer _ _ _ _ _ (optional-found _ (sym (present-as _ _ _ _ c.present_bits-a3.ensures c.is_one-2.ensures) ∙ c.in-Value-a3.is)) (by-optional config_answer Refused config-refuses _ _ _ _ _ (present-as _ _ _ _ c.present_bits-a4.ensures c.has_priority-ranked.ensures) c.in_default-a4.is c.optional_error-in_default-a4.ensures)))
+pub returns-in_err-priority : goal.returns-in_err-priority
+unfolding config_controls answer give
+returns-in_err-priority c = via answer _ _ _ _ _ (found _ (sym (present-as _ _ _ _ c.present_bits.ensures c.has_aligned.ensures) ∙ c.in_ok-aligned.was)) (via answer _ _ _ _ _ (found _ (sym (present-as _ _ _ _ c.present_bits-2.ensures c.is_one.ensures) ∙ c.in_ok-create.was)) (via answer _ _ _ _ _ (found _ (sym (present-as _ _ _ _ c.present_bits-3.ensures c.is_one-2.ensures) ∙ c.in_ok-remove.was)) (by_answer answer answer-refuses _ _ _ _ _ (present-as _ _ _ _ c.present_bits-4.ensures c.has_priority-ranked.ensures) c.in_err-priority.was (search rules))))
 
-pub returns-in_default-a5 : goal.returns-in_default-a5
-unfolding config_controls config_answer give
-returns-in_default-a5 c = via config_answer _ _ _ _ _ (optional-found _ (sym (present-as _ _ _ _ c.present_bits-a1.ensures c.has_aligned.ensures) ∙ c.in-Value.is)) (via config_answer _ _ _ _ _ (optional-found _ (sym (present-as _ _ _ _ c.present_bits-a2.ensures c.is_one.ensures) ∙ c.in-Value-a2.is)) (via config_answer _ _ _ _ _ (optional-found _ (sym (present-as _ _ _ _ c.present_bits-a3.ensures c.is_one-2.ensures) ∙ c.in-Value-a3.is)) (via config_answer _ _ _ _ _ (optional-found _ (sym (present-as _ _ _ _ c.present_bits-a4.ensures c.has_priority-ranked.ensures) ∙ c.in-Value-a4.is)) (by-optional config_answer Refused config-refuses _ _ _ _ _ (present-as _ _ _ _ c.present_bits-a5.ensures c.has_priority-ranked.ensures) c.in_default-a5.is c.optional_error-in_default-a5.ensures))))
+pub returns-in_err-processing : goal.returns-in_err-processing
+unfolding config_controls answer give
+returns-in_err-processing c = via answer _ _ _ _ _ (found _ (sym (present-as _ _ _ _ c.present_bits.ensures c.has_aligned.ensures) ∙ c.in_ok-aligned.was)) (via answer _ _ _ _ _ (found _ (sym (present-as _ _ _ _ c.present_bits-2.ensures c.is_one.ensures) ∙ c.in_ok-create.was)) (via answer _ _ _ _ _ (found _ (sym (present-as _ _ _ _ c.present_bits-3.ensures c.is_one-2.ensures) ∙ c.in_ok-remove.was)) (via answer _ _ _ _ _ (found _ (sym (present-as _ _ _ _ c.present_bits-4.ensures c.has_priority-ranked.ensures) ∙ c.in_ok-priority.was)) (by_answer answer answer-refuses _ _ _ _ _ (present-as _ _ _ _ c.present_bits-5.ensures c.has_priority-ranked.ensures) c.in_err-processing.was (search rules)))))
 
 pub returns : goal.returns
-unfolding config_controls config_answer give
-returns c = via config_answer _ _ _ _ _ (optional-found _ (sym (present-as _ _ _ _ c.present_bits-a1.ensures c.has_aligned.ensures) ∙ c.in-Value.is)) (via config_answer _ _ _ _ _ (optional-found _ (sym (present-as _ _ _ _ c.present_bits-a2.ensures c.is_one.ensures) ∙ c.in-Value-a2.is)) (via config_answer _ _ _ _ _ (optional-found _ (sym (present-as _ _ _ _ c.present_bits-a3.ensures c.is_one-2.ensures) ∙ c.in-Value-a3.is)) (via config_answer _ _ _ _ _ (optional-found _ (sym (present-as _ _ _ _ c.present_bits-a4.ensures c.has_priority-ranked.ensures) ∙ c.in-Value-a4.is)) (via config_answer _ _ _ _ _ (optional-found _ (sym (present-as _ _ _ _ c.present_bits-a5.ensures c.has_priority-ranked.ensures) ∙ c.in-Value-a5.is)) refl))))
+unfolding config_controls answer give
+returns c = via answer _ _ _ _ _ (found _ (sym (present-as _ _ _ _ c.present_bits.ensures c.has_aligned.ensures) ∙ c.in_ok-aligned.was)) (via answer _ _ _ _ _ (found _ (sym (present-as _ _ _ _ c.present_bits-2.ensures c.is_one.ensures) ∙ c.in_ok-create.was)) (via answer _ _ _ _ _ (found _ (sym (present-as _ _ _ _ c.present_bits-3.ensures c.is_one-2.ensures) ∙ c.in_ok-remove.was)) (via answer _ _ _ _ _ (found _ (sym (present-as _ _ _ _ c.present_bits-4.ensures c.has_priority-ranked.ensures) ∙ c.in_ok-priority.was)) (via answer _ _ _ _ _ (found _ (sym (present-as _ _ _ _ c.present_bits-5.ensures c.has_priority-ranked.ensures) ∙ c.in_ok-processing.was)) refl))))

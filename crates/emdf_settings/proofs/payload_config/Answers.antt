@@ -1,31 +1,31 @@
+use Rattle.std.proofs.Common.{rules}
 use mathlib.Core.Path.{sym, ◌∙◌}
-use Rattle.emdf_settings.specs.Settings.{config_answer}
-use Rattle.emdf_settings.specs.declared.ConfigAnswer.TheVariants.{Refused}
+use Rattle.emdf_fields.specs.Fields.{answer}
 use Rattle.emdf_format.specs.Reading.{payload_config}
 use Rattle.emdf_fields.proofs.Answers.{field_found, via, by_field}
-use Rattle.emdf_settings.proofs.Answers.{optional-found, by-optional, config-refuses}
+use Rattle.emdf_fields.proofs.Answers.{found, by_answer, answer-refuses}
 use Rattle.emdf_settings.proofs.payload_config.Goals as goal
 
-pub returns-in_default : goal.returns-in_default
+pub returns-in_err-offset : goal.returns-in_err-offset
 unfolding payload_config
-returns-in_default c = by-optional config_answer Refused config-refuses _ _ _ _ _ c.sample_offset-a1.ensures c.in_default.is c.optional_error.ensures
+returns-in_err-offset c = by_answer answer answer-refuses _ _ _ _ _ c.sample_offset.ensures c.in_err-offset.was (search rules)
 
-pub returns-in_default-a2 : goal.returns-in_default-a2
+pub returns-in_err-duration : goal.returns-in_err-duration
 unfolding payload_config
-returns-in_default-a2 c = via config_answer _ _ _ _ _ (optional-found _ (sym c.sample_offset-a1.ensures ∙ c.in-Value.is)) (by-optional config_answer Refused config-refuses _ _ _ _ _ c.flagged_variable-a2.ensures c.in_default-a2.is c.optional_error-in_default-a2.ensures)
+returns-in_err-duration c = via answer _ _ _ _ _ (found _ (sym c.sample_offset.ensures ∙ c.in_ok-offset.was)) (by_answer answer answer-refuses _ _ _ _ _ c.flagged_variable.ensures c.in_err-duration.was (search rules))
 
-pub returns-in_default-a3 : goal.returns-in_default-a3
+pub returns-in_err-group : goal.returns-in_err-group
 unfolding payload_config
-returns-in_default-a3 c = via config_answer _ _ _ _ _ (optional-found _ (sym c.sample_offset-a1.ensures ∙ c.in-Value.is)) (via config_answer _ _ _ _ _ (optional-found _ (sym c.flagged_variable-a2.ensures ∙ c.in-Value-a2.is)) (by-optional config_answer Refused config-refuses _ _ _ _ _ c.flagged_variable-a3.ensures c.in_default-a3.is c.optional_error-in_default-a3.ensures))
+returns-in_err-group c = via answer _ _ _ _ _ (found _ (sym c.sample_offset.ensures ∙ c.in_ok-offset.was)) (via answer _ _ _ _ _ (found _ (sym c.flagged_variable.ensures ∙ c.in_ok-duration.was)) (by_answer answer answer-refuses _ _ _ _ _ c.flagged_variable-2.ensures c.in_err-group.was (search rules)))
 
-pub returns-in_default-a4 : goal.returns-in_default-a4
+pub returns-in_err-codec : goal.returns-in_err-codec
 unfolding payload_config
-returns-in_default-a4 c = via config_answer _ _ _ _ _ (optional-found _ (sym c.sample_offset-a1.ensures ∙ c.in-Value.is)) (via config_answer _ _ _ _ _ (optional-found _ (sym c.flagged_variable-a2.ensures ∙ c.in-Value-a2.is)) (via config_answer _ _ _ _ _ (optional-found _ (sym c.flagged_variable-a3.ensures ∙ c.in-Value-a3.is)) (by_field config_answer Refused config-refuses _ _ _ _ _ c.codec_data-a4.ensures c.in_default-a4.is c.field_error.ensures)))
+returns-in_err-codec c = via answer _ _ _ _ _ (found _ (sym c.sample_offset.ensures ∙ c.in_ok-offset.was)) (via answer _ _ _ _ _ (found _ (sym c.flagged_variable.ensures ∙ c.in_ok-duration.was)) (via answer _ _ _ _ _ (found _ (sym c.flagged_variable-2.ensures ∙ c.in_ok-group.was)) (by_field answer answer-refuses _ _ _ _ _ c.codec_data.ensures c.in_err-codec.was (search rules))))
 
-pub returns-in_default-a5 : goal.returns-in_default-a5
+pub returns-in_err-discard : goal.returns-in_err-discard
 unfolding payload_config
-returns-in_default-a5 c = via config_answer _ _ _ _ _ (optional-found _ (sym c.sample_offset-a1.ensures ∙ c.in-Value.is)) (via config_answer _ _ _ _ _ (optional-found _ (sym c.flagged_variable-a2.ensures ∙ c.in-Value-a2.is)) (via config_answer _ _ _ _ _ (optional-found _ (sym c.flagged_variable-a3.ensures ∙ c.in-Value-a3.is)) (via config_answer _ _ _ _ _ (field_found _ (sym c.codec_data-a4.ensures ∙ c.in-Value-a4.is)) (by_field config_answer Refused config-refuses _ _ _ _ _ c.read_bits-a5.ensures c.in_default-a5.is c.field_error-in_default-a5.ensures))))
+returns-in_err-discard c = via answer _ _ _ _ _ (found _ (sym c.sample_offset.ensures ∙ c.in_ok-offset.was)) (via answer _ _ _ _ _ (found _ (sym c.flagged_variable.ensures ∙ c.in_ok-duration.was)) (via answer _ _ _ _ _ (found _ (sym c.flagged_variable-2.ensures ∙ c.in_ok-group.was)) (via answer _ _ _ _ _ (field_found _ (sym c.codec_data.ensures ∙ c.in_ok-codec.was)) (by_field answer answer-refuses _ _ _ _ _ c.read_bits.ensures c.in_err-discard.was (search rules)))))
 
 pub returns : goal.returns
 unfolding payload_config
-returns c = via config_answer _ _ _ _ _ (optional-found _ (sym c.sample_offset-a1.ensures ∙ c.in-Value.is)) (via config_answer _ _ _ _ _ (optional-found _ (sym c.flagged_variable-a2.ensures ∙ c.in-Value-a2.is)) (via config_answer _ _ _ _ _ (optional-found _ (sym c.flagged_variable-a3.ensures ∙ c.in-Value-a3.is)) (via config_answer _ _ _ _ _ (field_found _ (sym c.codec_data-a4.ensures ∙ c.in-Value-a4.is)) (via config_answer _ _ _ _ _ (field_found _ (sym c.read_bits-a5.ensures ∙ c.in-Value-a5.is)) c.config_controls.ensures))))
+returns c = via answer _ _ _ _ _ (found _ (sym c.sample_offset.ensures ∙ c.in_ok-offset.was)) (via answer _ _ _ _ _ (found _ (sym c.flagged_variable.ensures ∙ c.in_ok-duration.was)) (via answer _ _ _ _ _ (found _ (sym c.flagged_variable-2.ensures ∙ c.in_ok-group.was)) (via answer _ _ _ _ _ (field_found _ (sym c.codec_data.ensures ∙ c.in_ok-codec.was)) (via answer _ _ _ _ _ (field_found _ (sym c.read_bits.ensures ∙ c.in_ok-discard.was)) c.config_controls.ensures))))

@@ -1,14 +1,12 @@
-use Rattle.emdf_format.proofs.Standing.{fails, holds}
+use mathlib.Core.Path.{sym, ◌∙◌}
 use Rattle.emdf_measure.proofs.Asked.{stop, go}
 use Rattle.emdf_settings_bytes.specs.Settings.{settings_formed}
-use mathlib.Core.Path.{ap}
-use mathlib.Core.Bool.{not}
 use Rattle.emdf_settings_bytes.proofs.settings_formed.Goals as goal
 
-pub returns-then-not-pairs_formed : goal.returns-then-not-pairs_formed
+pub returns-then-pairs_formed : goal.returns-then-pairs_formed
 unfolding settings_formed
-returns-then-not-pairs_formed c = stop _ (fails (ap not c.if-not-pairs_formed.true) c.pairs_formed.ensures)
+returns-then-pairs_formed c = go _ (sym c.pairs_formed.ensures ∙ c.if-pairs_formed.true) c.pairs_formed-then-pairs_formed.ensures
 
-pub returns : goal.returns
+pub returns-else-pairs_formed : goal.returns-else-pairs_formed
 unfolding settings_formed
-returns c = go _ (holds (ap not c.if-not-pairs_formed.false) c.pairs_formed.ensures) c.pairs_formed-2.ensures
+returns-else-pairs_formed c = c.if-pairs_formed.false ∙ stop _ (sym c.pairs_formed.ensures ∙ c.if-pairs_formed.false)

@@ -1,19 +1,29 @@
 use borrow.Author.Tests.{eq-eqb, ne_eqb}
-use mathlib.Core.Path.{◌∙◌, ap}
+use mathlib.Core.Path.{◌≡◌, sym, ◌∙◌}
+use mathlib.Core.List.{List}
+use Prim.Native.Nat.{ℕ}
+use lib.ListN.{length}
+use Rattle.std.proofs.Common.{rules}
 use Rattle.emdf_format.specs.Contents.{◌&◌}
-use Rattle.emdf_format.proofs.Standing.{fails, holds}
 use Rattle.emdf_settings_bytes.specs.Settings.{settings_of}
-use mathlib.Core.Bool.{not}
 use Rattle.emdf_settings_bytes.proofs.settings_of.Goals as goal
 
-pub returns-then-s-ne-SETTINGS_BYTES : goal.returns-then-s-ne-SETTINGS_BYTES
+pub returns-in_default : goal.returns-in_default
 unfolding settings_of ◌&◌
-returns-then-s-ne-SETTINGS_BYTES c = c.unformed_settings.ensures ∙ rw (ne_eqb _ _ c.if-s-ne-SETTINGS_BYTES.true)
+returns-in_default c =
+    let other : length c.args.s.now ≡ 144 → ⊥ = search rules in
+    c.unformed_settings.ensures ∙ rw (ne_eqb _ 144 other)
 
-pub returns-then-not-settings_formed : goal.returns-then-not-settings_formed
+pub returns-then-settings_formed : goal.returns-then-settings_formed
 unfolding settings_of ◌&◌
-returns-then-not-settings_formed c = c.unformed_settings-then-not-settings_formed.ensures ∙ rw (eq-eqb _ _ c.if-s-ne-SETTINGS_BYTES.false, fails (ap not c.if-not-settings_formed.true) c.settings_formed.ensures)
+returns-then-settings_formed c =
+    let long : length c.args.s.now ≡ 144 = search rules in
+    let same : c.in-Ok.bytes.now ≡ c.args.s.now = search rules in
+    rw (eq-eqb _ 144 long, ← same, sym c.settings_formed.ensures ∙ c.if-settings_formed.true) c.config_of.ensures
 
-pub returns : goal.returns
+pub returns-else-settings_formed : goal.returns-else-settings_formed
 unfolding settings_of ◌&◌
-returns c = c.config_of.ensures ∙ rw (eq-eqb _ _ c.if-s-ne-SETTINGS_BYTES.false, holds (ap not c.if-not-settings_formed.false) c.settings_formed.ensures)
+returns-else-settings_formed c =
+    let long : length c.args.s.now ≡ 144 = search rules in
+    let same : c.in-Ok.bytes.now ≡ c.args.s.now = search rules in
+    rw (eq-eqb _ 144 long, ← same, sym c.settings_formed.ensures ∙ c.if-settings_formed.false) c.unformed_settings-else-settings_formed.ensures

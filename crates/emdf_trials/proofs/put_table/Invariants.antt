@@ -1,12 +1,9 @@
 use mathlib.Core.Path.{◌≡◌}
-use Prim.Native.Nat.{◌-◌, ◌*◌, ◌≤◌}
-use lib.ListN.{length, take, drop}
+use Prim.Native.Nat.{◌*◌}
+use lib.ListN.{drop}
 use lib.Seq.{sets}
 use Rattle.emdf_answers.specs.Carriers.{rows_bytes}
 use Rattle.emdf_trials.proofs.put_table.Given as goal
 
-abbrev pub invariant-loop-i : goal.invariant-loop-i
-invariant-loop-i l = (l.i ≤ l.rows) × (length l.table ≡ length l.initial.table) × (sets l.table (l.i * 224) (rows_bytes (take (l.rows - l.i) (drop l.i l.lent))) ≡ sets l.initial.table 0 (rows_bytes (take l.rows l.lent)))
-
-abbrev pub decreases-loop-i : goal.decreases-loop-i
-decreases-loop-i l = l.rows - l.i
+abbrev pub invariant-loop-place : goal.invariant-loop-place
+invariant-loop-place l = sets l.table (l.place * 224) (rows_bytes (drop l.place l.rows)) ≡ sets l.initial.table 0 (rows_bytes l.rows)

@@ -1,8 +1,7 @@
-use Rattle.emdf_trials.proofs.Answers.{parsed-answers, refused-answers}
+use Rattle.std.proofs.Common.{sym, ◌∙◌, ap, rules}
+use Rattle.emdf_trials.specs.Trials.{parse_reply}
+use Rattle.emdf_trials.proofs.Answers.{read_told}
 use Rattle.emdf_trials.proofs.trial_parse.Goals as goal
 
-pub returns-in-Parsed : goal.returns-in-Parsed
-returns-in-Parsed c = parsed-answers c.parse_emdf_sync-a.ensures c.in-Parsed.is c.put_reading.ensures c.parsed_words.ensures
-
-pub returns-in-Refused : goal.returns-in-Refused
-returns-in-Refused c = refused-answers c.parse_emdf_sync-a.ensures c.in-Refused.is c.put_refusal.ensures
+pub returns : goal.returns
+returns c = rw (sym (ap parse_reply c.parse_emdf_sync-read.ensures) ∙ sym (read_told _ c.map_err.result (search rules))) c.put_read.ensures

@@ -8,16 +8,16 @@ use Rattle.openjoc_bitio.specs.declared.BitCursor.{BitCursor}
 use Rattle.emdf_writer.proofs.Fitting.{room-test}
 use Rattle.emdf_writer.proofs.has_bits.Goals as goal
 
-pub returns-then-limit-at : goal.returns-then-limit-at
+pub returns-then-at-limit : goal.returns-then-at-limit
 unfolding whole_slice
-returns-then-limit-at c =
+returns-then-at-limit c =
     let a = c.args in
     let e : c.new-limit.result.end ≡ bit_length a.s.now = ap (λ (x : BitCursor). x.end) c.new-limit.ensures in
-    sym (lt-leb (a.at + a.n) (bit_length a.s.now) (omega (arith, e, c.if-limit-at.true)))
+    room-test _ a.at a.n c.if-at-limit.true ∙ ap (leb (a.at + a.n)) e
 
-pub returns : goal.returns
+pub returns-else-at-limit : goal.returns-else-at-limit
 unfolding whole_slice
-returns c =
+returns-else-at-limit c =
     let a = c.args in
     let e : c.new-limit.result.end ≡ bit_length a.s.now = ap (λ (x : BitCursor). x.end) c.new-limit.ensures in
-    room-test _ a.at a.n c.if-limit-at.false ∙ ap (leb (a.at + a.n)) e
+    lt-leb a.at _ c.if-at-limit.false ∙ sym (lt-leb (a.at + a.n) (bit_length a.s.now) (omega (arith, e, c.if-at-limit.false)))

@@ -10,17 +10,17 @@ returns-then-bytes-gt-MOST_BYTES c =
     record { out_after = w.0; prefix_len = w.1 }
 
 pub put_opened-requires : goal.put_opened-requires
-put_opened-requires c = (sym c.open_carrier-a.ensures ∙ c.in-Open.is, omega (arith, c.requires))
+put_opened-requires c = (sym c.open_carrier.ensures ∙ c.in-Ok.is, omega (arith, c.requires))
 
 pub put_refused-requires : goal.put_refused-requires
-put_refused-requires c = (read-refused _ c.open_carrier-a.ensures c.in-Refused.is, omega (arith, c.requires))
+put_refused-requires c = (read-refused _ c.open_carrier.ensures c.in-Err.is, omega (arith, c.requires))
 
-pub returns-in-Open : goal.returns-in-Open
-returns-in-Open c =
+pub returns-in-Ok : goal.returns-in-Ok
+returns-in-Ok c =
     let w = whole (put_as c.put_opened.ensures (in-limit c.args.bytes.now (omega (arith, c.if-bytes-gt-MOST_BYTES.false)))) in
     record { out_after = w.0; prefix_len = w.1 }
 
-pub returns-in-Refused : goal.returns-in-Refused
-returns-in-Refused c =
+pub returns-in-Err : goal.returns-in-Err
+returns-in-Err c =
     let w = whole (put_as c.put_refused.ensures (in-limit c.args.bytes.now (omega (arith, c.if-bytes-gt-MOST_BYTES.false)))) in
     record { out_after = w.0; prefix_len = w.1 }

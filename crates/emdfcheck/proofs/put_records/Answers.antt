@@ -1,6 +1,7 @@
-use Prim.Native.Nat.{ℕ}
-use mathlib.Core.Path.{◌≡◌, refl, sym, ◌∙◌}
+use mathlib.Core.Path.{refl, sym, ◌∙◌}
 use native.Mathlib.Omega.{arith}
+use Rattle.openjoc_bitio.proofs.Results.{ok-same, ok-is-not-err}
+use Rattle.std.proofs.Common.{rules}
 use Rattle.emdf_payloads.proofs.Turns.{at-payload}
 use Rattle.emdf_text.proofs.Put.{leaves-less}
 use Rattle.emdfcheck.proofs.Records.{all_listed, all-records, more, done}
@@ -14,31 +15,25 @@ loop-payload-init c =
 pub put_record-end-requires : goal.put_record-end-requires
 put_record-end-requires c =
     let l = c.loop-payload in
-    let m = more _ l.at c.next_payload-step.ensures l.invariant.0 l.invariant.1 c.in-Payload.is in
+    let m = more _ l.at c.next_payload.ensures l.invariant.0 l.invariant.1 (rw c.in-Ok-Some-default.field-0-0-is at c.in-Ok-Some-default.is) in
     omega (arith, m.size, l.invariant.3)
 
 pub loop-payload-smaller : goal.loop-payload-smaller
-loop-payload-smaller c = (at-payload _ c.loop-payload.at (sym c.next_payload-step.ensures ∙ c.in-Payload.is)).less
+loop-payload-smaller c = (at-payload _ c.loop-payload.at (sym c.next_payload.ensures ∙ (rw c.in-Ok-Some-default.field-0-0-is at c.in-Ok-Some-default.is))).less
 
 pub loop-payload-preserved : goal.loop-payload-preserved
 loop-payload-preserved c =
     let l = c.loop-payload in
-    let m = more _ l.at c.next_payload-step.ensures l.invariant.0 l.invariant.1 c.in-Payload.is in
+    let m = more _ l.at c.next_payload.ensures l.invariant.0 l.invariant.1 (rw c.in-Ok-Some-default.field-0-0-is at c.in-Ok-Some-default.is) in
     let p = c.put_record-end in
     (m.rest, m.listed, p.auto.out ∙ l.invariant.2, omega (arith, m.size, l.invariant.3, p.ensures.upper_bound, p.auto.out), leaves-less (rw m.lines at l.invariant.4) p.ensures.printed)
 
-pub shape_of-out-in-End : goal.shape_of-out-in-End
-shape_of-out-in-End c = c.loop-payload.invariant.2
-
-pub returns-in-End : goal.returns-in-End
-returns-in-End c =
+pub returns-in_default : goal.returns-in_default
+returns-in_default c =
     let l = c.loop-payload in
-    done _ l.at c.next_payload-step.ensures l.invariant.0 l.invariant.1 (λ r next h. let z : ◌≡◌ {A = ℕ} 0 1 = cc in omega arith) l.invariant.3 l.invariant.4
+    done _ l.at c.next_payload.ensures l.invariant.0 l.invariant.1 (λ r next h. let e = ok-same (sym h ∙ c.in_default.is) in search rules) l.invariant.3 l.invariant.4
 
-pub shape_of-out-in-Refused : goal.shape_of-out-in-Refused
-shape_of-out-in-Refused c = c.loop-payload.invariant.2
-
-pub returns-in-Refused : goal.returns-in-Refused
-returns-in-Refused c =
+pub returns-in_default-2 : goal.returns-in_default-2
+returns-in_default-2 c =
     let l = c.loop-payload in
-    done _ l.at c.next_payload-step.ensures l.invariant.0 l.invariant.1 (λ r next h. let z : ◌≡◌ {A = ℕ} 0 1 = cc in omega arith) l.invariant.3 l.invariant.4
+    done _ l.at c.next_payload.ensures l.invariant.0 l.invariant.1 (λ r next h. ok-is-not-err (sym h ∙ c.in_default.is)) l.invariant.3 l.invariant.4

@@ -4,6 +4,3 @@ use Rattle.joc_configs.proofs.meets_profile.Goals as goal
 pub returns-in-EtsiStrict : goal.returns-in-EtsiStrict
 unfolding meets_profile
 returns-in-EtsiStrict c = rw (c.in-EtsiStrict.is, c.requires)
-
-pub returns-in-ObservedVendorCompat : goal.returns-in-ObservedVendorCompat
-returns-in-ObservedVendorCompat c = rw c.in-ObservedVendorCompat.is c.meets_compat.ensures

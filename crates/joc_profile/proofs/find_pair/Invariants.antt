@@ -7,11 +7,11 @@ use Rattle.joc_profile.specs.Pair.{count_of}
 use Rattle.joc_profile.proofs.Pair.{Same}
 use Rattle.joc_profile.proofs.find_pair.Given as goal
 
-abbrev pub invariant-loop-id : goal.invariant-loop-id
-invariant-loop-id l = (l.place ≤ l.at.position)
+abbrev pub invariant-loop-step : goal.invariant-loop-step
+invariant-loop-step l = (l.place ≤ l.at.position)
     × (count_of l.oamd ≤ l.place)
     × (count_of l.joc ≤ l.place)
     × ((xs : List Found) → Listed l.s l.initial.at xs → Same l.s l.at l.oamd l.joc l.place xs)
 
-abbrev pub decreases-loop-id : goal.decreases-loop-id
-decreases-loop-id l = bits_remaining l.s l.at
+abbrev pub decreases-loop-step : goal.decreases-loop-step
+decreases-loop-step l = bits_remaining l.s l.at

@@ -1,5 +1,5 @@
 use Prim.Native.Nat.{ℕ, ◌-◌, ◌*◌, ◌/◌, ◌^◌}
-use mathlib.Core.Path.{◌≡◌, refl, sym, ap, ◌∙◌}
+use mathlib.Core.Path.{◌≡◌, refl, ap}
 use lib.Dec.{lit<}
 use lib.ListN.{length, take}
 use lib.Seq.{length-take-le}
@@ -13,9 +13,6 @@ use Rattle.openjoc_emdf.specs.Answers.{reached_by, first_payload}
 use Rattle.emdf_container.proofs.Words.{key-found}
 use Rattle.openjoc_emdf.proofs.first_payload.Goals as goal
 
-pub slice_bounds-window_at-end : goal.slice_bounds-window_at-end
-slice_bounds-window_at-end c = sym (length-take-le _ c.args.bytes.now (omega arith))
-
 pub returns-then-window_at-lt7 : goal.returns-then-window_at-lt7
 unfolding first_payload field_answer
 returns-then-window_at-lt7 c =
@@ -27,13 +24,14 @@ returns-then-window_at-lt7 c =
     let k : extended_value 3 s (n * 8) 34 ≡ got (c.window_at.result / 2 ^ 59) 37 = key-found s (n * 8) 32 (ap (λ (x : ℕ). x / 2 ^ 59) c.window_at.ensures) c.if-window_at-lt7.true (omega (arith, r)) in
     rw k
 
-pub slice_bounds-extended_value-end : goal.slice_bounds-extended_value-end
-slice_bounds-extended_value-end c = sym (length-take-le _ c.args.bytes.now (omega arith))
-
 pub extended_value-requires : goal.extended_value-requires
 unfolding escape
 extended_value-requires c = (lit< tt, refl)
 
-pub returns : goal.returns
+pub returns-in-Ok : goal.returns-in-Ok
 unfolding first_payload
-returns c = c.reached.ensures ∙ ap reached_by c.extended_value.ensures
+returns-in-Ok c = ap reached_by c.in-Ok.ensures
+
+pub returns-in-Err : goal.returns-in-Err
+unfolding first_payload
+returns-in-Err c = ap reached_by c.in-Err.ensures

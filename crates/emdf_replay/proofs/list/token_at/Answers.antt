@@ -1,7 +1,9 @@
-use native.Mathlib.Omega.{arith}
-use mathlib.Core.Path.{sym, ◌∙◌}
+use Rattle.std.proofs.Common.{sym, arith}
 use Rattle.emdf_text.proofs.Text.{number-inside}
 use Rattle.emdf_replay.proofs.list.token_at.Goals as goal
 
-pub returns : goal.returns
-returns c = let a = c.args in let h = number-inside a.text.now a.at _ _ (sym c.number_at-answer.ensures ∙ c.in-Number.is) in omega arith
+pub returns-in-32 : goal.returns-in-32
+returns-in-32 c = omega (arith, number-inside c.args.text.now c.args.at _ _ (sym c.in_ok-value.ensures))
+
+pub returns-in-10 : goal.returns-in-10
+returns-in-10 c = omega (arith, number-inside c.args.text.now c.args.at _ _ (sym c.in_ok-value.ensures))
