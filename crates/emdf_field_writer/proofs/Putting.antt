@@ -138,12 +138,9 @@ run_fits out at s from n r h l =
     let k : at + n ≤ length out * 8 = omega (arith, length_run s from n h, r.0) in
     ap octet_bits (sym (run_in out at s from n (fits s (from + n) h l) (fits out (at + n) k r.1)).1) ∙ octets-put out at s from n k h
 
-run-all : (s : List ℕ) → bit_run s 0 (length s * 8) ≡ octet_bits s
+pub run-all : (s : List ℕ) → bit_run s 0 (length s * 8) ≡ octet_bits s
 unfolding bit_run
 run-all s = let e : length s * 8 ≡ length (octet_bits s) = omega (arith, length-octets s) in rw e (take-length (octet_bits s))
-
-pub octets-fit : (out : List ℕ) (at : ℕ) (s : List ℕ) → Room out at (octet_bits s) → octet_bits (bit_by_bit out at s 0 (length s * 8)) ≡ sets (octet_bits out) at (octet_bits s)
-octets-fit out at s r = run_fits out at s 0 (length s * 8) (rw (run-all s) r) (omega arith) (omega (arith, length-octets s, r.0, r.1)) ∙ rw (run-all s)
 
 -- ---- the parts of a carrier
 

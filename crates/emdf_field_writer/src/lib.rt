@@ -72,9 +72,7 @@ fn put_octets(out: &mut [u8], at: BitOffset, s: &[u8]) -> BitOffset
     requires { Room out.old at.0 (octet_bits s.now) }
     ensures { Put out.old at.0 (octet_bits s.now) out.new result.0 }
 {
-    let n = s.len() * 8;
-    emdf_writer::copy_bits(out, at.0, s, 0, n);
-    BitOffset(at.0 + n)
+    put_run(out, at, s, BitOffset(0), s.len() * 8)
 }
 
 // The sample offset: a flag and, where it is there, 11 bits and a reserved one.

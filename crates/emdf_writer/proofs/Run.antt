@@ -5,13 +5,12 @@ use Prim.Native.Nat.{ℕ, zero, suc, ◌+◌, ◌-◌, ◌*◌, ◌/◌, ◌%◌
 use native.Mathlib.Nat.{add-zero, sub-zero}
 use native.Mathlib.Omega.{arith}
 use native.Mathlib.Decide.{dec_lt}
-use lib.ListN.{length, get_or, set, take, drop, length-set, get_or-append}
+use lib.ListN.{length, get_or, set, drop, get_or-append}
 use lib.Pow.{high}
 use lib.Seq.{sets, drop-cons, drop-drop, take-add, get_or-append-add}
 use Rattle.openjoc_bitio.specs.Bits.{bit_at, bits_value, number_bits}
-use Rattle.openjoc_bitio.proofs.Bits.{bit-range, value-byte, value-first, value-range, length-number, number-high}
+use Rattle.openjoc_bitio.proofs.Bits.{bit-range, value-first, value-range, value-split, length-number, number-high}
 use Rattle.emdf_format.specs.Syntax.{◌⨟◌, octet_bits}
-use Rattle.emdf_format.specs.Edits.{Bytes}
 use Rattle.emdf_format.proofs.Bytes.{sets-append}
 use Rattle.emdf_format.proofs.Payloads.{length-octets}
 use Rattle.emdf_writer.specs.Writing.{bit_run}
@@ -62,6 +61,14 @@ run_value s p (suc n) h =
 pub length_run : (s : List ℕ) (p n : ℕ) → p + n ≤ length s * 8 → length (bit_run s p n) ≡ n
 length_run s p n h = rw (run_value s p n h) (length-number n _)
 
+-- ---- octets
+
+-- its first t bits
+pub octet-part : (s : List ℕ) (p t : ℕ) → t ≤ 8 → bits_value s p 8 / 2 ^ (8 - t) ≡ bits_value s p t
+octet-part s p t h =
+    let e : t + (8 - t) ≡ 8 = omega arith in
+    ap (λ (n : ℕ). bits_value s p n / 2 ^ (8 - t)) (sym e) ∙ rw (value-split s p t (8 - t)) (high (bits_value s p t) (8 - t) (value-range s (p + t) (8 - t)))
+
 -- ---- runs that are put one after another
 
 pub run-add : (s : List ℕ) (p a b : ℕ) → bit_run s p (a + b) ≡ bit_run s p a ++ bit_run s (p + a) b
@@ -87,19 +94,6 @@ octets-more l s i p n k b h g f e =
     let y : i * 8 + (k + 1) * 8 ≡ i * 8 + k * 8 + 8 = omega arith in
     let z : p + (k + 1) * 8 ≡ p + k * 8 + 8 = omega arith in
     rw (octet-stored l (i + k) b g, w, x, y, z, e, ← run_value s (p + k * 8) 8 (omega arith)) (run_join (octet_bits l) s (i * 8 + k * 8) (p + k * 8) 8 ((n - (k + 1)) * 8) (omega arith))
-
--- octets of s stored as they are
-pub octets-copied : (n : ℕ) (l s : List ℕ) (i j : ℕ) → Bytes s → i + n ≤ length l → j + n ≤ length s
-    → octet_bits (sets l i (take n (drop j s))) ≡ sets (octet_bits l) (i * 8) (bit_run s (j * 8) (n * 8))
-octets-copied zero l s i j f h k = sym (run_none (octet_bits l) s (i * 8) (j * 8) _ refl)
-octets-copied (suc n) l s i j f h k =
-    let w : suc i * 8 ≡ i * 8 + 8 = omega arith in
-    let x : suc j * 8 ≡ j * 8 + 8 = omega arith in
-    let y : 8 + n * 8 ≡ suc n * 8 = omega arith in
-    let b : number_bits 8 (get_or s j 0) ≡ bit_run s (j * 8) 8 = rw (← value-byte s j (f j)) (sym (run_value s (j * 8) 8 (omega arith))) in
-    rw (drop-cons s j 0 (omega arith))
-    (octets-copied n (set l i (get_or s j 0)) s (suc i) (suc j) f (rw length-set (omega arith)) (omega arith)
-    ∙ rw (octet-stored l i (get_or s j 0) (omega arith), b, w, x) (run_join (octet_bits l) s (i * 8) (j * 8) 8 (n * 8) (omega arith) ∙ rw y))
 
 -- where there are none, their place doesn't matter
 octets-at : (l s : List ℕ) (x y p m : ℕ) → (0 < m → x ≡ y) → sets l x (bit_run s p (m * 8)) ≡ sets l y (bit_run s p (m * 8))

@@ -86,6 +86,21 @@ fn put_parts(out: &mut [u8], at: usize, width: usize, v: u64)
     }
 }
 
+// The byte at i: 0 past the end.
+fn byte_at(s: &[u8], i: usize) -> u8
+    ensures { result ≡ get_or s.now i 0 }
+{
+    s.get(i).copied().unwrap_or(0)
+}
+
+// The octet from bit p on, with zeros past the end.
+fn octet_at(s: &[u8], p: usize) -> u8
+    ensures { result ≡ bits_value s.now p 8 }
+{
+    let i = p / 8;
+    openjoc_bitio::octet_in(byte_at(s, i), byte_at(s, i + 1), p % 8)
+}
+
 // The t bits of s from bit from on, to out from bit at on, where they lie in one byte.
 fn copy_part(out: &mut [u8], at: usize, s: &[u8], from: usize, t: usize)
     requires { (at % 8 + t ≤ 8) × (at + t ≤ length out.old * 8) × (from + t ≤ length s.now * 8) }
@@ -94,7 +109,17 @@ fn copy_part(out: &mut [u8], at: usize, s: &[u8], from: usize, t: usize)
     if t == 0 {
         return;
     }
-    put_part(out, at, t, openjoc_bitio::window_at(s, from) >> (64 - t));
+    put_part(out, at, t, u64::from(octet_at(s, from)) >> (8 - t));
+}
+
+// n bytes of s from byte j on, to out from byte i on. copy_from_slice would call memmove, which a host need not have.
+fn copy_bytes(out: &mut [u8], i: usize, s: &[u8], j: usize, n: usize)
+    requires { (i + n ≤ length out.old) × (j + n ≤ length s.now) }
+    ensures { octet_bits out.new ≡ sets (octet_bits out.old) (i * 8) (bit_run s.now (j * 8) (n * 8)) }
+{
+    for moved in 0..n {
+        out[i + moved] = s[j + moved];
+    }
 }
 
 // n octets of s from phase bits into its byte j on, to out from byte i on.
@@ -115,7 +140,7 @@ pub fn copy_octets(out: &mut [u8], i: usize, s: &[u8], from: usize, n: usize)
     let j = from / 8;
     let phase = from % 8;
     if phase == 0 {
-        out[i..i + n].copy_from_slice(&s[j..j + n]);
+        copy_bytes(out, i, s, j, n);
         return;
     }
     copy_shifted(out, i, s, j, phase, n);

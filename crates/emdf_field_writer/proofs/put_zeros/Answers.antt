@@ -13,7 +13,7 @@ loop-init c = none-put _ _
 pub put_field-next-requires : goal.put_field-next-requires
 put_field-next-requires c =
     let o = c.loop in
-    omega (arith, length-number 64 0, length-number c.args.n 0, length-number (64 * o.counter) 0, o.invariant.0, c.requires)
+    omega (arith, length-number, o.invariant.0, c.requires)
 
 pub loop-preserved : goal.loop-preserved
 loop-preserved c =
@@ -24,7 +24,7 @@ loop-preserved c =
 pub put_field-requires : goal.put_field-requires
 put_field-requires c =
     let o = c.loop in
-    omega (arith, length-number (c.args.n % 64) 0, length-number c.args.n 0, length-number (64 * o.counter) 0, o.invariant.0, c.requires)
+    omega (arith, length-number, o.invariant.0, c.requires)
 
 pub returns : goal.returns
 returns c =
