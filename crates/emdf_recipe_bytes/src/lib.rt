@@ -18,14 +18,7 @@ pub fn put_checked(answer: &mut [u8; 16], checked: Result<usize, RecipeError>) -
 fn checked_figures(checked: Result<usize, RecipeError>) -> Figures
     ensures { result ≡ checked_figures checked }
 {
-    match checked {
-        Ok(edits) => Figures {
-            number: 0,
-            first: edits as u64,
-            second: 0,
-        },
-        Err(why) => why.figures(),
-    }
+    emdf_answers::answer_figures(checked.map(|edits| (edits as u64, 0)))
 }
 
 fn holder_number(holder: Holder) -> u64

@@ -185,7 +185,7 @@ pub fn put_answer(answer: &mut [u8], number: u32, values: &[u64]) -> u32
 }
 
 // Numbers, 8 bytes each, from index at on.
-pub fn put_words(out: &mut [u8], at: usize, values: &[u64])
+fn put_words(out: &mut [u8], at: usize, values: &[u64])
     requires { at + 8 * length values.now ≤ length out.old }
     ensures { out.new ≡ sets out.old at (words values.now) }
 {
