@@ -330,9 +330,9 @@ module _ {s : List ℕ} {p m x : ℕ} (w : Word s p m x) (l : m ≤ 64) (h : 52 
   after-codec : Word s (p + a + b + c + d) (m - a - b - c - d) (after_codec x)
   after-codec = word_after d (omega arith) (omega (arith, few)) after-group
 
-  pub found : (e : ℕ) → p + config_length x ≤ bit_limit s e → payload_config s e p ≡ got (compact_config x) (p + config_length x)
+  pub config-found : (e : ℕ) → p + config_length x ≤ bit_limit s e → payload_config s e p ≡ got (compact_config x) (p + config_length x)
   unfolding payload_config compact_config compact_settings config_length
-  found e k =
+  config-found e k =
       let r = controls-range (is_present (flagged_value 11 x)) (after_codec x) in
       let i : config_length x ≡ a + b + c + d + controls_span (is_present (flagged_value 11 x)) (after_codec x) = rw t in
       let j : p + config_length x ≡ p + a + b + c + d + controls_span (is_present (flagged_value 11 x)) (after_codec x) = omega (arith, i) in

@@ -142,6 +142,9 @@ pub run-all : (s : List ℕ) → bit_run s 0 (length s * 8) ≡ octet_bits s
 unfolding bit_run
 run-all s = let e : length s * 8 ≡ length (octet_bits s) = omega (arith, length-octets s) in rw e (take-length (octet_bits s))
 
+pub octets-fit : (out : List ℕ) (at : ℕ) (s : List ℕ) → Room out at (octet_bits s) → octet_bits (bit_by_bit out at s 0 (length s * 8)) ≡ sets (octet_bits out) at (octet_bits s)
+octets-fit out at s r = run_fits out at s 0 (length s * 8) (rw (run-all s) r) (omega arith) (omega (arith, length-octets s, r.0, r.1)) ∙ rw (run-all s)
+
 -- ---- the parts of a carrier
 
 pub length-protection : (a b : List ℕ) → length (protection_bits a b) ≡ 4 + (length (octet_bits a) + length (octet_bits b))

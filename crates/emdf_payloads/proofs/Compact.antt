@@ -26,7 +26,7 @@ use Rattle.emdf_compact.specs.Words.{compact_settings, compact_config, config_le
 use Rattle.emdf_fields.proofs.Word.{Word, word-window, word_after}
 use Rattle.emdf_compact.proofs.Words.{top-few}
 use Rattle.emdf_compact.proofs.Groups.{two-are-two, others-one, grouped-head, head-mark, grouped-few}
-use Rattle.emdf_compact.proofs.Compact.{found, id-found, size-found, head-end, head_of, head-most, size-most, value-most}
+use Rattle.emdf_compact.proofs.Compact.{config-found, id-found, size-found, head-end, head_of, head-most, size-most, value-most}
 use Rattle.emdf_payloads.specs.Payloads.{next_payload, next_step, next_answer, step_at, record_groups}
 use Rattle.emdf_payloads.specs.Compact.{not_compact, compact_parts, compact_record, compact_groups, compact_step}
 use Rattle.emdf_payloads.specs.declared.CompactPayload.{CompactPayload}
@@ -46,7 +46,7 @@ after-found {s} {q} {m} {x} w h₆₄ h₅₂ e p₀ id {z} {b} {t} settings som
     let n = size_value (window_at s z) in
     let r : b + 8 * n ≡ t = omega arith in
     bind-go position _ (at-go s e q)
-    (bind-go payload_config _ (found w h₆₄ h₅₂ settings e (omega arith) ∙ ap (λ (o : ℕ). got (compact_config x) o) i)
+    (bind-go payload_config _ (config-found w h₆₄ h₅₂ settings e (omega arith) ∙ ap (λ (o : ℕ). got (compact_config x) o) i)
     (bind-go position _ (at-go s e z)
     (bind-go (variable_bits 8 2) _ (size-found (word-window s z) (lit≤ tt) e (lit≤ tt) some (omega arith) ∙ ap (λ (o : ℕ). got n o) j)
     (bind-go position _ (at-go s e b)

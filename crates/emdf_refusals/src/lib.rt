@@ -147,7 +147,7 @@ impl Numbered for RecipeError {
 }
 
 // The number, and two figures.
-fn figures_of(refusal: Refusal) -> Figures
+pub fn figures_of(refusal: Refusal) -> Figures
     ensures { result ≡ figures_of refusal }
 {
     match refusal {

@@ -129,8 +129,7 @@ fn put_found(table: &mut [u8], slots: &mut [u64], place: usize, s: &[u8], c: Bit
     }
 }
 
-// The ordinal of a payload with this id after place rows, by these; its slot is taken. Apart from storing the row, which then
-// compiles into put_next.
+// The ordinal of a payload with this id after place rows, by these; its slot is taken.
 fn next_ordinal(table: &[u8], slots: &mut [u64], place: usize, id: u64) -> u64
     requires { (place * 224 + 224 ≤ length table.now) × Searchable table.now slots.old place }
     ensures { (result ≡ suc (last_in table.now slots.old place id)) × (slots.new ≡ slots_with slots.old id place) }

@@ -6,8 +6,6 @@ mod lines;
 mod report;
 
 ghost use Rattle.std.specs.Prelude.{◌≡◌};
-ghost use Rattle.std.specs.Char.{is_ascii_digit};
-ghost use Rattle.std.specs.List.{take_while};
 ghost use Rattle.emdf_text.specs.Text.{decimal_at};
 
 pub use input::read_full;
@@ -19,15 +17,17 @@ pub use report::fail;
 pub fn number_at(text: &[u8], at: usize) -> Option<(u64, usize)>
     ensures { result ≡ decimal_at text.now at }
 {
-    let digits = digits_of(text.get(at..)?);
-    let number = str::from_utf8(digits).ok()?.parse::<u64>().ok()?;
-    Some((number, at + digits.len()))
-}
-
-// The digits at the start of a text.
-fn digits_of(text: &[u8]) -> &[u8]
-    ensures { result.now ≡ take_while is_ascii_digit text.now }
-{
-    let n = text.iter().take_while(|byte| byte.is_ascii_digit()).count();
-    &text[..n]
+    let rest = text.get(at..)?;
+    if !rest.first()?.is_ascii_digit() {
+        return None;
+    }
+    let mut number: u64 = 0;
+    // What no u64 holds is known at its first digit too many, so that the rest of a long run is not looked at.
+    for (i, byte) in rest.iter().enumerate() {
+        if !byte.is_ascii_digit() {
+            return Some((number, at + i));
+        }
+        number = number.checked_mul(10)?.checked_add(u64::from(byte - 48))?;
+    }
+    Some((number, text.len()))
 }

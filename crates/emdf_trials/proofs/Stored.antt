@@ -1,25 +1,36 @@
 -- What is stored piece by piece. Assumes nothing.
-use mathlib.Core.Path.{◌≡◌, sym, ◌∙◌}
-use mathlib.Core.List.{List, ◌++◌}
-use Prim.Native.Nat.{ℕ, suc, ◌+◌, ◌*◌, ◌<◌, ◌≤◌, min}
+use mathlib.Core.Path.{◌≡◌, refl, sym}
+use mathlib.Core.List.{List, []}
+use Prim.Native.Nat.{ℕ, zero, suc, ◌+◌, ◌-◌, ◌*◌, ◌<◌, ◌≤◌}
 use native.Mathlib.Omega.{arith}
-use native.Mathlib.Nat.{zero-add, min-le_left}
-use lib.ListN.{length, take, drop, get_or, drop_of_length-le}
+use lib.ListN.{length, set, take, drop, get_or, drop_of_length-le}
 use lib.Seq.{sets, drop-cons}
-use Rattle.std.proofs.lemmas.List.{length-take, take_min}
-use Rattle.std.proofs.lemmas.List.Edits.{sets-eq}
 use Rattle.emdf_format.specs.declared.PayloadRow.{PayloadRow}
 use Rattle.emdf_format.proofs.Bytes.{sets-append}
 use Rattle.emdf_answers.specs.Form.{words}
 use Rattle.emdf_answers.specs.Carriers.{row_words, rows_bytes}
 use Rattle.emdf_rows.proofs.Rows.{length-row}
 
--- as many bytes as there is room for
-pub bytes-stored : (out bytes : List ℕ) (n : ℕ) → n ≡ min (length out) (length bytes) → take n bytes ++ drop n out ≡ sets out 0 (take (length out) bytes)
-bytes-stored out bytes n e =
-    let l : length (take (length out) bytes) ≡ n = length-take (length out) bytes ∙ sym e in
-    let t : take n bytes ≡ take (length out) bytes = rw e (take_min (length out) bytes) in
-    sym (sets-eq (take (length out) bytes) out 0 (omega (arith, l, e, min-le_left (length out) (length bytes))) ∙ rw (zero-add, l, t))
+-- ---- bytes
+
+-- none is left
+take_none : {X : Type 0} (n : ℕ) → let none : List X = [] in take n none ≡ none
+take_none zero = refl
+take_none (suc n) = refl
+
+pub all-taken : {X : Type 0} (n i : ℕ) (xs : List X) → n ≤ i → take (n - i) (drop i xs) ≡ []
+all-taken n i xs h = let a : n - i ≡ 0 = omega arith in rw a
+
+pub all_there : {X : Type 0} (n i : ℕ) (xs : List X) → length xs ≤ i → take (n - i) (drop i xs) ≡ []
+all_there n i xs h = rw (drop_of_length-le xs h) (take_none (n - i))
+
+pub byte-stored : (n i : ℕ) (out bytes : List ℕ) → i < n → i < length bytes → sets (set out i (get_or bytes i 0)) (i + 1) (take (n - (i + 1)) (drop (i + 1) bytes)) ≡ sets out i (take (n - i) (drop i bytes))
+byte-stored n i out bytes h k =
+    let a : n - i ≡ suc (n - (i + 1)) = omega arith in
+    let b : i + 1 ≡ suc i = omega arith in
+    rw (a, b, drop-cons bytes i 0 k)
+
+-- ---- rows
 
 -- the row at place i, before those after it
 pub row-stored : (i : ℕ) (table : List ℕ) (rows : List PayloadRow) (d : PayloadRow) → i < length rows

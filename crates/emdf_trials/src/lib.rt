@@ -88,7 +88,7 @@ pub extern "C" fn trial_trace(bytes: &[u8], table: &mut [u8], answer: &mut [u8; 
 {
     let rows = table_rows(table.len());
     let read = emdf_table::read_table(bytes, blank_row(), rows);
-    put_table(table, &read.table[..rows]);
+    put_table(table, read.table, rows);
     put_read(answer, read.answer)
 }
 
@@ -149,11 +149,12 @@ fn blank_row() -> PayloadRow
     }
 }
 
-fn put_table(table: &mut [u8], rows: &[PayloadRow])
-    requires { length rows.now * 224 ≤ length table.old }
-    ensures { table.new ≡ sets table.old 0 (rows_bytes rows.now) }
+// The first rows of a table, which is handed over whole: where a part of it is lent, the table stands on the stack twice.
+fn put_table(table: &mut [u8], lent: [PayloadRow; 512], rows: usize)
+    requires { (rows ≤ 512) × (rows * 224 ≤ length table.old) }
+    ensures { table.new ≡ sets table.old 0 (rows_bytes (take rows lent)) }
 {
-    for (place, row) in rows.iter().enumerate() {
+    for (place, row) in lent[..rows].iter().enumerate() {
         emdf_rows::put_row(
             table,
             place * emdf_rows::ROW_BYTES,
@@ -181,8 +182,13 @@ pub extern "C" fn trial_choose_body<'a>(
 fn put_bytes(out: &mut [u8], bytes: &[u8])
     ensures { out.new ≡ sets out.old 0 (take (length out.old) bytes.now) }
 {
-    let n = out.len().min(bytes.len());
-    out[..n].copy_from_slice(&bytes[..n]);
+    // One by one: copy_from_slice would be a call of memmove, which the archive asks of no host.
+    for (i, byte) in bytes.iter().enumerate() {
+        if out.len() <= i {
+            return;
+        }
+        out[i] = *byte;
+    }
 }
 
 // validate_joc_profile, with the answer of emdf_verdict.

@@ -1,21 +1,31 @@
-use Rattle.std.proofs.Common.{◌≡◌, ◌∙◌, rules, arith, Some, None}
-use Rattle.emdf_text.proofs.Text.{past, are-text, parsed}
+use Rattle.std.proofs.Common.{◌+◌, arith}
+use Rattle.std.proofs.lemmas.Bool.Decides.{nat_tests}
+use Rattle.emdf_text.proofs.Text.{past, decimal-is, scan-step, scan-end}
 use Rattle.emdf_text.proofs.number_at.Goals as goal
 
-pub returns-in_err-get : goal.returns-in_err-get
-returns-in_err-get c = let h = past c.args.text.now c.args.at (omega (arith, c.in_err-get.ensures.lookup)) in cc
+pub returns-in_err-rest : goal.returns-in_err-rest
+returns-in_err-rest c = let h = past c.args.text.now c.args.at (omega (arith, c.in_err-rest.ensures.lookup)) in cc
 
--- never: digits are text
-pub returns-in_err-ok : goal.returns-in_err-ok
-returns-in_err-ok c = let h = are-text c.in_ok-get.field-0.now in absurd (search rules)
+pub returns-in_err-first : goal.returns-in_err-first
+returns-in_err-first c = grind (arith, nat_tests, decimal-is c.args.text.now c.args.at c.in_ok-rest.ensures.lookup.0.2, c.in_err-first.ensures)
+
+pub returns-then-not-is_ascii_digit : goal.returns-then-not-is_ascii_digit
+returns-then-not-is_ascii_digit c = grind (arith, nat_tests, decimal-is c.args.text.now c.args.at c.in_ok-rest.ensures.lookup.0.2, c.in_ok-first.ensures, c.if-not-is_ascii_digit.ensures)
+
+pub loop-i-init : goal.loop-i-init
+loop-i-init c = grind (arith, nat_tests, decimal-is c.args.text.now c.args.at c.in_ok-rest.ensures.lookup.0.2, c.in_ok-first.ensures)
+
+pub returns-then-not-is_ascii_digit-2 : goal.returns-then-not-is_ascii_digit-2
+returns-then-not-is_ascii_digit-2 c = grind (arith, nat_tests, scan-step _ c.loop-i.number c.args.at _ c.loop-i-test.true)
+
+pub returns-in_err-checked_mul : goal.returns-in_err-checked_mul
+returns-in_err-checked_mul c = grind (arith, nat_tests, scan-step _ c.loop-i.number c.args.at _ c.loop-i-test.true, c.in_err-checked_mul.ensures)
 
 pub returns-in_err-number : goal.returns-in_err-number
-returns-in_err-number c =
-    let e : c.in_ok-ok.field-0.now ≡ c.digits_of-digits.result.now = search rules in
-    c.from_residual-in_err-number.ensures
-    ∙ parsed c.args.text.now c.args.at None _ c.in_ok-get.ensures.lookup.0.2 c.digits_of-digits.ensures (rw e at c.parse.ensures.value.0) c.in_err-number.ensures.value
+returns-in_err-number c = grind (arith, nat_tests, scan-step _ c.loop-i.number c.args.at _ c.loop-i-test.true, c.in_err-number.ensures)
+
+pub loop-i-preserved : goal.loop-i-preserved
+loop-i-preserved c = grind (arith, nat_tests, scan-step _ c.loop-i.number c.args.at _ c.loop-i-test.true, c.in_ok-number.ensures, c.in_ok-checked_mul.ensures)
 
 pub returns : goal.returns
-returns c =
-    let e : c.in_ok-ok.field-0.now ≡ c.digits_of-digits.result.now = search rules in
-    parsed c.args.text.now c.args.at (Some c.in_ok-number.number) _ c.in_ok-get.ensures.lookup.0.2 c.digits_of-digits.ensures (rw e at c.parse.ensures.value.0) c.in_ok-number.ensures.value
+returns c = grind (arith, nat_tests, scan-end _ c.loop-i.number (c.args.at + c.loop-i.i) _ c.loop-i-test.false, c.in_ok-rest.ensures)
