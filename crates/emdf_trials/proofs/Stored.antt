@@ -1,10 +1,10 @@
 -- What is stored piece by piece. Assumes nothing.
-use mathlib.Core.Path.{◌≡◌, refl, sym}
+use mathlib.Core.Path.{◌≡◌, sym}
 use mathlib.Core.List.{List, []}
-use Prim.Native.Nat.{ℕ, zero, suc, ◌+◌, ◌-◌, ◌*◌, ◌<◌, ◌≤◌}
+use Prim.Native.Nat.{ℕ, suc, ◌+◌, ◌-◌, ◌*◌, ◌<◌, ◌≤◌}
 use native.Mathlib.Omega.{arith}
 use lib.ListN.{length, set, take, drop, get_or, drop_of_length-le}
-use lib.Seq.{sets, drop-cons}
+use lib.Seq.{sets, drop-cons, take-nil}
 use Rattle.emdf_format.specs.declared.PayloadRow.{PayloadRow}
 use Rattle.emdf_format.proofs.Bytes.{sets-append}
 use Rattle.emdf_answers.specs.Form.{words}
@@ -13,16 +13,11 @@ use Rattle.emdf_rows.proofs.Rows.{length-row}
 
 -- ---- bytes
 
--- none is left
-take_none : {X : Type 0} (n : ℕ) → let none : List X = [] in take n none ≡ none
-take_none zero = refl
-take_none (suc n) = refl
-
 pub all-taken : {X : Type 0} (n i : ℕ) (xs : List X) → n ≤ i → take (n - i) (drop i xs) ≡ []
 all-taken n i xs h = let a : n - i ≡ 0 = omega arith in rw a
 
 pub all_there : {X : Type 0} (n i : ℕ) (xs : List X) → length xs ≤ i → take (n - i) (drop i xs) ≡ []
-all_there n i xs h = rw (drop_of_length-le xs h) (take_none (n - i))
+all_there n i xs h = rw (drop_of_length-le xs h) (take-nil (n - i))
 
 pub byte-stored : (n i : ℕ) (out bytes : List ℕ) → i < n → i < length bytes → sets (set out i (get_or bytes i 0)) (i + 1) (take (n - (i + 1)) (drop (i + 1) bytes)) ≡ sets out i (take (n - i) (drop i bytes))
 byte-stored n i out bytes h k =

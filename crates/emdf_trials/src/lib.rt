@@ -149,7 +149,7 @@ fn blank_row() -> PayloadRow
     }
 }
 
-// The first rows of a table, which is handed over whole: where a part of it is lent, the table stands on the stack twice.
+// The first rows of a table. It is handed over whole: where a part of it is lent, it stands on the stack once more.
 fn put_table(table: &mut [u8], lent: [PayloadRow; 512], rows: usize)
     requires { (rows ≤ 512) × (rows * 224 ≤ length table.old) }
     ensures { table.new ≡ sets table.old 0 (rows_bytes (take rows lent)) }
